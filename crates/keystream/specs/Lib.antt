@@ -1,0 +1,5 @@
+pub mod Bits
+pub mod Meaning
+pub mod Refusals
+pub mod Calls
+pub mod PadKind
