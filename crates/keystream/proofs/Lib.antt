@@ -1,3 +1,7 @@
 mod Numbers
 mod Bytes
 mod Accepts
+mod Sealing
+mod Laying
+mod Streams
+mod Applying

@@ -4,6 +4,7 @@
 --   bit-at bytes i    bit i of a byte string: bit 7 − (i mod 8) of byte ⌊i / 8⌋; false past its end
 --   first-bits n bytes  the first n bits, as a list
 --   as-number bits    a list of bits as one number, the first bit most significant
+--   bits-of n x       the lowest n bits of a number, the most significant of them first
 --   byte-of f         the byte whose bits 0 to 7 are f 0 to f 7
 use mathlib.Core.List.{List, [], _∷_, map}
 use mathlib.Core.Bool.{Bool, true, false, not, cond}
@@ -26,6 +27,9 @@ first-bits n bytes = map (bit-at bytes) (counting 0 n)
 abbrev pub as-number : List Bool → ℕ
 as-number [] = 0
 as-number (b ∷ bits) = cond b 1 0 * 2 ^ length bits + as-number bits
+
+unfoldable pub bits-of : ℕ → ℕ → List Bool
+bits-of n x = map (λ i. eqb (x / 2 ^ (n - 1 - i) % 2) 1) (counting 0 n)
 
 unfoldable pub byte-of : (ℕ → Bool) → ℕ
 byte-of f = as-number (map f (counting 0 8))

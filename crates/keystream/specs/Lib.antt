@@ -3,3 +3,4 @@ pub mod Meaning
 pub mod Refusals
 pub mod Calls
 pub mod PadKind
+pub mod Span

@@ -14,6 +14,8 @@ use Rattle.keystream.specs.declared.fault.GeneratorFault.{GeneratorFault}
 use Rattle.keystream.specs.declared.fault.GeneratorFault.the-variants.{KeyLength, VariableTooLong, VariableBytes, TakeCount, TakeBeyond}
 use Rattle.keystream.specs.declared.fault.MakingFault.{MakingFault}
 use Rattle.keystream.specs.declared.fault.MakingFault.the-variants.{PadLength}
+use Rattle.keystream.specs.declared.fault.SpanFault.{SpanFault}
+use Rattle.keystream.specs.declared.fault.SpanFault.the-variants.{Outside, Generator}
 use Rattle.keystream.specs.Meaning.{Meaning, Meant, Key, left}
 
 abbrev pub generator-number : GeneratorFault → ℕ
@@ -36,6 +38,14 @@ making-number PadLength = 28
 abbrev pub making-layer : MakingFault → Layer
 making-layer PadLength = layers.Generator
 
+abbrev pub span-number : SpanFault → ℕ
+span-number Outside = 30
+span-number (Generator fault) = generator-number fault
+
+abbrev pub span-layer : SpanFault → Layer
+span-layer Outside = layers.Generator
+span-layer (Generator fault) = generator-layer fault
+
 abbrev pub answered : {X F : Type 0} → List (Bool × F) → X → Result X F
 answered [] x = Ok x
 answered ((condition, fault) ∷ rest) x = cond condition (Err fault) (answered rest x)
@@ -49,3 +59,7 @@ load-refusals m key count bytes =
 
 abbrev pub take-refusals : Meaning → Meant → ℕ → List (Bool × GeneratorFault)
 take-refusals m s n = (eqb n 0 || ltb 64 n, TakeCount) ∷ ((ltb (left m s) n, TakeBeyond) ∷ [])
+
+-- applying a keystream to n bits from bit `first` on of a buffer of `size` bytes
+abbrev pub span-refusals : Meaning → Meant → ℕ → ℕ → ℕ → List (Bool × SpanFault)
+span-refusals m s size first n = (ltb (8 * size) (first + n), Outside) ∷ ((ltb (left m s) n, Generator TakeBeyond) ∷ [])

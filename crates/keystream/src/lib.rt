@@ -3,3 +3,4 @@ pub mod bits;
 pub mod fault;
 pub mod generator;
 pub mod pad;
+pub mod span;
