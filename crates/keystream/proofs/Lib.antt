@@ -5,3 +5,4 @@ mod Sealing
 mod Laying
 mod Streams
 mod Applying
+mod HexTexts

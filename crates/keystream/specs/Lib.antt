@@ -4,3 +4,4 @@ pub mod Refusals
 pub mod Calls
 pub mod PadKind
 pub mod Span
+pub mod Hex

@@ -1,11 +1,13 @@
 -- The refusals: the number and the layer of each, and for each call those that it tries, in their order, with their conditions.
 --
 --   answered refusals x   the first refusal whose condition holds, or the answer x
-use mathlib.Core.List.{List, [], _∷_}
+use mathlib.Core.List.{List, [], _∷_, _++_}
 use mathlib.Core.Bool.{Bool, true, false, not, _||_, cond}
 use Prim.Native.Nat.{ℕ, _+_, _*_, _/_}
+use lib.Chars.{codes}
 use lib.ListN.{length}
 use lib.Dec.{eqb, ltb}
+use Rattle.std.specs.Written.{decimal}
 use Rattle.std.specs.declared.result.Result.{Result}
 use Rattle.std.specs.declared.result.Result.the-variants.{Ok, Err}
 use Rattle.keystream.specs.declared.fault.Layer.{Layer}
@@ -17,6 +19,15 @@ use Rattle.keystream.specs.declared.fault.MakingFault.the-variants.{PadLength}
 use Rattle.keystream.specs.declared.fault.SpanFault.{SpanFault}
 use Rattle.keystream.specs.declared.fault.SpanFault.the-variants.{Outside, Generator}
 use Rattle.keystream.specs.Meaning.{Meaning, Meant, Key, left}
+
+abbrev pub layer-name : Layer → List ℕ
+layer-name layers.Line = codes "line"
+layer-name layers.Station = codes "station"
+layer-name layers.Generator = codes "generator"
+
+-- how a refusal is printed: its number and its layer
+abbrev pub refusal-text : ℕ → Layer → List ℕ
+refusal-text number layer = decimal number ++ (codes " " ++ layer-name layer)
 
 abbrev pub generator-number : GeneratorFault → ℕ
 generator-number KeyLength = 21

@@ -1,7 +1,9 @@
 // Why a call is refused: each refusal has a number and names its layer.
 ghost use mathlib.Core.Path.{_≡_};
 ghost use Rattle.keystream.specs.declared.fault.SpanFault.the-variants as spans;
-ghost use Rattle.keystream.specs.Refusals.{generator-number, generator-layer, making-number, making-layer, span-number, span-layer};
+ghost use Rattle.std.specs.declared.option.Option.the-variants.{Some};
+ghost use Rattle.keystream.specs.Refusals.{layer-name, refusal-text, generator-number, generator-layer, making-number, making-layer, span-number, span-layer};
+use std::fmt;
 
 // What a refusal can come from, from the outside in.
 #[derive(Clone, Copy, PartialEq, Eq, Debug)]
@@ -9,6 +11,18 @@ pub enum Layer {
     Line,
     Station,
     Generator,
+}
+
+pub impl fmt::Display for Layer as LayerDisplay {
+    ghost shown = { λ layer. Some (layer-name layer) };
+
+    fn fmt<W: fmt::Write>(&self, f: &mut fmt::Formatter<W>) -> fmt::Result {
+        match self {
+            Layer::Line => f.write_str("line"),
+            Layer::Station => f.write_str("station"),
+            Layer::Generator => f.write_str("generator"),
+        }
+    }
 }
 
 // Why a generator refuses a load, a check or a take.
@@ -41,6 +55,16 @@ impl GeneratorFault {
     }
 }
 
+pub impl fmt::Display for GeneratorFault as GeneratorFaultDisplay {
+    ghost shown = { λ fault. Some (refusal-text (generator-number fault) (generator-layer fault)) };
+
+    fn fmt<W: fmt::Write>(&self, f: &mut fmt::Formatter<W>) -> fmt::Result {
+        let number = self.number();
+        let layer = self.layer();
+        write!(f, "{number} {layer}")
+    }
+}
+
 // Why a generator is not made.
 #[derive(Clone, Copy, PartialEq, Eq, Debug)]
 pub enum MakingFault {
@@ -60,6 +84,16 @@ impl MakingFault {
         ensures { λ r. ⌜ r ≡ making-layer self ⌝ }
     {
         Layer::Generator
+    }
+}
+
+pub impl fmt::Display for MakingFault as MakingFaultDisplay {
+    ghost shown = { λ fault. Some (refusal-text (making-number fault) (making-layer fault)) };
+
+    fn fmt<W: fmt::Write>(&self, f: &mut fmt::Formatter<W>) -> fmt::Result {
+        let number = self.number();
+        let layer = self.layer();
+        write!(f, "{number} {layer}")
     }
 }
 
@@ -87,6 +121,16 @@ impl SpanFault {
             SpanFault::Outside => Layer::Generator,
             SpanFault::Generator(fault) => fault.layer(),
         }
+    }
+}
+
+pub impl fmt::Display for SpanFault as SpanFaultDisplay {
+    ghost shown = { λ fault. Some (refusal-text (span-number fault) (span-layer fault)) };
+
+    fn fmt<W: fmt::Write>(&self, f: &mut fmt::Formatter<W>) -> fmt::Result {
+        let number = self.number();
+        let layer = self.layer();
+        write!(f, "{number} {layer}")
     }
 }
 

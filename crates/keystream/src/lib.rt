@@ -2,5 +2,6 @@
 pub mod bits;
 pub mod fault;
 pub mod generator;
+pub mod hex;
 pub mod pad;
 pub mod span;
