@@ -1,8 +1,8 @@
 mod Numbers
 mod Bytes
-mod Accepts
-mod Sealing
+pub mod Accepts
+pub mod Sealing
 mod Laying
-mod Streams
-mod Applying
+pub mod Streams
+pub mod Applying
 mod HexTexts
