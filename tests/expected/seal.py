@@ -25,7 +25,7 @@ def answer(key, count, variable, message):
 
     if not hexadecimal(key):
         return ["unreadable key"]
-    if not count.isdecimal():
+    if not (count.isascii() and count.isdigit()):
         return ["unreadable bit count"]
     if not hexadecimal(variable):
         return ["unreadable variable"]
@@ -44,6 +44,6 @@ def answer(key, count, variable, message):
     return ["sealed " + sealed(text, stream).hex(), "clear " + message]
 
 
-lines = sys.stdin.read().splitlines()
-for i in range(0, len(lines) - 3, 4):
+lines = sys.stdin.read().split("\n")
+for i in range(0, len(lines) - 4, 4):
     print("\n".join(answer(*lines[i : i + 4])))

@@ -1,11 +1,8 @@
--- What follows from an accepted call, and what makes a call accepted.
+-- Accepted calls: what they answer and what is meant after them.
 use mathlib.Core.List.{List}
-use mathlib.Core.Bool.{Bool, true, false, not, _||_, cond}
-use mathlib.Core.Path.{_≡_, refl, sym, ap, _∙_}
-use Prim.Native.Nat.{ℕ, _+_, _*_, _/_, _≤_, _<_}
+use mathlib.Core.Path.{_≡_, ap}
+use Prim.Native.Nat.{ℕ, _≤_, _<_}
 use native.Mathlib.Omega.{arith}
-use lib.Dec.{eqb, ltb}
-use lib.ListN.{length}
 use Rattle.std.specs.declared.result.Result.{Result}
 use Rattle.std.specs.declared.result.Result.the-variants.{Ok, Err}
 use Rattle.std.proofs.shelf.Ways.{tells}
@@ -14,16 +11,7 @@ use Rattle.keystream.specs.Bits.{first-bits, as-number}
 use Rattle.keystream.specs.Meaning.{Meaning, Meant, Key, loaded, left, keystream, moved}
 use Rattle.keystream.specs.Calls.{load-answer, load-after, take-answer, take-after}
 
--- an accepted load
-pub record Load-accepted (m : Meaning) (key : Key) (count : ℕ) (bytes : List ℕ) : Type 0 where
-  pub key-length : 8 * length key ≡ m .key-bits
-  pub short : count ≤ m .longest
-  pub whole : length bytes ≡ (count + 7) / 8
-
-pub load-accepted : (m : Meaning) (key : Key) (count : ℕ) (bytes : List ℕ) → load-answer m key count bytes ≡ Ok tt → Load-accepted m key count bytes
-load-accepted m key count bytes e =
-    record { key-length = grind (arith, tells); short = grind (arith, tells); whole = grind (arith, tells) }
-
+-- a load that is accepted
 pub load-loads : (m : Meaning) (s : Meant) (key : Key) (count : ℕ) (bytes : List ℕ) → load-answer m key count bytes ≡ Ok tt → load-after m s key count bytes ≡ loaded key (first-bits count bytes) 0
 load-loads m s key count bytes e =
     ap (λ (r : Result (Unit {0}) GeneratorFault). elim r [ Ok x ↦ loaded key (first-bits count bytes) 0 | Err f ↦ s ]) e

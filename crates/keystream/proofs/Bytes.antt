@@ -1,14 +1,13 @@
 -- Bytes and their bits.
-use mathlib.Core.List.{List, [], _∷_, map}
+use mathlib.Core.List.{List, [], _∷_}
 use mathlib.Core.Bool.{Bool, false}
 use mathlib.Core.Path.{_≡_, refl, sym, ap, _∙_, subst}
-use Prim.Native.Nat.{ℕ, zero, suc, _+_, _-_, _*_, _/_, _%_, _^_, _<_, _≤_}
+use Prim.Native.Nat.{ℕ, zero, suc, _+_, _-_, _/_, _%_, _^_, _<_, _≤_}
 use native.Mathlib.Nat.{zero-add, mod-eq-of-lt}
 use native.Mathlib.Omega.{arith}
 use lib.Bits.{bitXor, xor-shr, xor-mod}
 use lib.Dec.{eqb}
 use lib.ListN.{length, getD}
-use Rattle.std.specs.Iters.{counting}
 use Rattle.std.proofs.shelf.Bits.{shr-below, mod-below}
 use Rattle.std.proofs.shelf.Counted.{length-map-counting}
 use Rattle.keystream.specs.Bits.{_⊕_, bit-at, first-bits, byte-of, as-number}
@@ -37,7 +36,9 @@ unfolding byte-of
 byte-of-zeros = refl
 
 xor-of-bits : (x y : ℕ) → x < 2 → y < 2 → eqb (bitXor x y) 1 ≡ eqb x 1 ⊕ eqb y 1
-xor-of-bits zero y g h = refl
+xor-of-bits zero zero g h = refl
+xor-of-bits zero (suc zero) g h = refl
+xor-of-bits zero (suc (suc y)) g h = absurd (omega arith)
 xor-of-bits (suc zero) zero g h = refl
 xor-of-bits (suc zero) (suc zero) g h = refl
 xor-of-bits (suc zero) (suc (suc y)) g h = absurd (omega arith)

@@ -5,4 +5,3 @@ pub mod Sealing
 mod Laying
 pub mod Streams
 pub mod Applying
-mod HexTexts

@@ -1,7 +1,7 @@
 -- Laws of bits laid over a buffer: none laid, laid in two parts, and laid twice.
-use mathlib.Core.List.{List, [], _∷_, _++_, map}
+use mathlib.Core.List.{List, [], _++_}
 use mathlib.Core.Bool.{Bool, true, false, cond}
-use mathlib.Core.Logic.{_⊎_, inl, inr}
+use mathlib.Core.Logic.{inl, inr}
 use mathlib.Core.Path.{_≡_, refl, sym, ap, _∙_}
 use Prim.Native.Nat.{ℕ, _+_, _-_, _*_, _/_, _%_, _^_, _<_, _≤_}
 use native.Mathlib.Nat.{zero-add}
@@ -9,7 +9,6 @@ use native.Mathlib.Omega.{arith}
 use lib.Bits.{bitXor, xor-assoc, xor-self, xor-zero-r}
 use lib.Dec.{eqb, leb}
 use lib.ListN.{length, getD}
-use Rattle.std.specs.Iters.{counting}
 use Rattle.std.proofs.shelf.Counted.{length-map-counting, getD-map-counting}
 use Rattle.std.proofs.shelf.Lists.{getD-past, getD-append-left, getD-append-right, ext-getD}
 use Rattle.std.proofs.shelf.Tests.{cases-lt, le-leb, lt-leb}
@@ -20,6 +19,10 @@ use Rattle.keystream.proofs.Bytes.{byte-of-same, byte-of-zeros, byte-of-xor, b
 xor-false : (a : Bool) → a ⊕ false ≡ a
 xor-false true = refl
 xor-false false = refl
+
+false-xor : (a : Bool) → false ⊕ a ≡ a
+false-xor true = refl
+false-xor false = refl
 
 pub laid-before : (first : ℕ) (bits : List Bool) (i : ℕ) → i < first → laid first bits i ≡ false
 laid-before first bits i h = rw (lt-leb first i h)
@@ -35,7 +38,9 @@ laid-append first xs ys i =
     elim (cases-lt i first) [
       | inl h ↦
           laid-before first (xs ++ ys) i h
-          ∙ sym (ap (λ b. b ⊕ laid (first + length xs) ys i) (laid-before first xs i h) ∙ laid-before (first + length xs) ys i (omega arith))
+          ∙ sym
+          (ap (λ b. b ⊕ laid (first + length xs) ys i) (laid-before first xs i h)
+          ∙ ap (λ b. false ⊕ b) (laid-before (first + length xs) ys i (omega arith)))
       | inr h ↦
           elim (cases-lt i (first + length xs)) [
             | inl g ↦
@@ -47,7 +52,7 @@ laid-append first xs ys i =
                 laid-at first (xs ++ ys) i h
                 ∙ getD-append-right xs ys (length xs) (i - first) false refl (omega arith)
                 ∙ ap (λ (k : ℕ). getD ys k false) e
-                ∙ sym (ap (λ b. b ⊕ laid (first + length xs) ys i) (laid-past first xs i g) ∙ laid-at (first + length xs) ys i g)
+                ∙ sym (ap (λ b. b ⊕ laid (first + length xs) ys i) (laid-past first xs i g) ∙ false-xor (laid (first + length xs) ys i) ∙ laid-at (first + length xs) ys i g)
           ]
     ]
 

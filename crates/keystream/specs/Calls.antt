@@ -1,11 +1,14 @@
--- What each call of a generator answers, and what it means afterwards. A refusal changes nothing.
+-- What each call of a generator answers, and what the generator means afterwards. A refusal changes nothing.
+--
+--   load-answer, load-after  of load; check answers the same
+--   take-answer, take-after  of take
 use Prim.Native.Nat.{ℕ}
 use mathlib.Core.List.{List}
 use Rattle.std.specs.declared.result.Result.{Result}
 use Rattle.std.specs.declared.result.Result.the-variants.{Ok, Err}
 use Rattle.keystream.specs.declared.fault.GeneratorFault.{GeneratorFault}
 use Rattle.keystream.specs.Bits.{first-bits, as-number}
-use Rattle.keystream.specs.Meaning.{Meaning, Meant, Key, idle, loaded, keystream, moved}
+use Rattle.keystream.specs.Meaning.{Meaning, Meant, Key, loaded, keystream, moved}
 use Rattle.keystream.specs.Refusals.{answered, load-refusals, take-refusals}
 
 abbrev pub load-answer : Meaning → Key → ℕ → List ℕ → Result (Unit {0}) GeneratorFault

@@ -4,4 +4,3 @@ pub mod Refusals
 pub mod Calls
 pub mod PadKind
 pub mod Span
-pub mod Hex

@@ -4,6 +4,7 @@
 --   Variable    the bits of an initialisation variable; two variables are the same when these lists are
 --   Meaning     key length and longest variable in bits, the limit, and the keystream bit of each key, variable and place
 --   Meant       nothing, or a key, a variable and a place
+--   Ranges, Fits  what is so of every generator: of its meaning, and of what is loaded
 --   left m s        keystream bits from the place up to the limit; none with nothing loaded
 --   keystream m s n  the next n keystream bits
 --   moved s n       the same key and variable, n places on

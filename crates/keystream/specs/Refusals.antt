@@ -1,8 +1,12 @@
 -- The refusals: the number and the layer of each, and for each call those that it tries, in their order, with their conditions.
 --
+--   ..-number, ..-layer    the number and the layer of a refusal
+--   layer-name            how a layer is printed
+--   refusal-text          how a refusal is printed
+--   ..-refusals            what a call tries: each condition with its refusal
 --   answered refusals x   the first refusal whose condition holds, or the answer x
 use mathlib.Core.List.{List, [], _∷_, _++_}
-use mathlib.Core.Bool.{Bool, true, false, not, _||_, cond}
+use mathlib.Core.Bool.{Bool, not, _||_, cond}
 use Prim.Native.Nat.{ℕ, _+_, _*_, _/_}
 use lib.Chars.{codes}
 use lib.ListN.{length}
@@ -14,8 +18,8 @@ use Rattle.keystream.specs.declared.fault.Layer.{Layer}
 use Rattle.keystream.specs.declared.fault.Layer.the-variants as layers
 use Rattle.keystream.specs.declared.fault.GeneratorFault.{GeneratorFault}
 use Rattle.keystream.specs.declared.fault.GeneratorFault.the-variants.{KeyLength, VariableTooLong, VariableBytes, TakeCount, TakeBeyond}
-use Rattle.keystream.specs.declared.fault.MakingFault.{MakingFault}
-use Rattle.keystream.specs.declared.fault.MakingFault.the-variants.{PadLength}
+use Rattle.keystream.specs.declared.fault.PadFault.{PadFault}
+use Rattle.keystream.specs.declared.fault.PadFault.the-variants.{Length}
 use Rattle.keystream.specs.declared.fault.SpanFault.{SpanFault}
 use Rattle.keystream.specs.declared.fault.SpanFault.the-variants.{Outside, Generator}
 use Rattle.keystream.specs.Meaning.{Meaning, Meant, Key, left}
@@ -25,7 +29,6 @@ layer-name layers.Line = codes "line"
 layer-name layers.Station = codes "station"
 layer-name layers.Generator = codes "generator"
 
--- how a refusal is printed: its number and its layer
 abbrev pub refusal-text : ℕ → Layer → List ℕ
 refusal-text number layer = decimal number ++ (codes " " ++ layer-name layer)
 
@@ -43,11 +46,11 @@ generator-layer VariableBytes = layers.Generator
 generator-layer TakeCount = layers.Generator
 generator-layer TakeBeyond = layers.Generator
 
-abbrev pub making-number : MakingFault → ℕ
-making-number PadLength = 28
+abbrev pub pad-number : PadFault → ℕ
+pad-number Length = 28
 
-abbrev pub making-layer : MakingFault → Layer
-making-layer PadLength = layers.Generator
+abbrev pub pad-layer : PadFault → Layer
+pad-layer Length = layers.Generator
 
 abbrev pub span-number : SpanFault → ℕ
 span-number Outside = 30
@@ -60,6 +63,10 @@ span-layer (Generator fault) = generator-layer fault
 abbrev pub answered : {X F : Type 0} → List (Bool × F) → X → Result X F
 answered [] x = Ok x
 answered ((condition, fault) ∷ rest) x = cond condition (Err fault) (answered rest x)
+
+-- making a pad of these bytes
+abbrev pub pad-refusals : List ℕ → List (Bool × PadFault)
+pad-refusals bytes = (not (eqb (length bytes) 1024), Length) ∷ []
 
 -- load and check
 abbrev pub load-refusals : Meaning → Key → ℕ → List ℕ → List (Bool × GeneratorFault)

@@ -7,7 +7,7 @@ pub fn bit(bytes: &[u8], i: usize) -> bool
     ensures { λ r. ⌜ r ≡ bit-at (now (bytes .entry)) i ⌝ }
 {
     match bytes.get(i / 8) {
-        Some(byte) => byte >> (7 - i % 8) & 1 == 1,
+        Some(byte) => (byte >> (7 - i % 8)) % 2 == 1,
         None => false,
     }
 }

@@ -2,10 +2,10 @@
 ghost use mathlib.Core.Path.{_≡_};
 ghost use Rattle.keystream.specs.declared.fault.SpanFault.the-variants as spans;
 ghost use Rattle.std.specs.declared.option.Option.the-variants.{Some};
-ghost use Rattle.keystream.specs.Refusals.{layer-name, refusal-text, generator-number, generator-layer, making-number, making-layer, span-number, span-layer};
+ghost use Rattle.keystream.specs.Refusals.{layer-name, refusal-text, generator-number, generator-layer, pad-number, pad-layer, span-number, span-layer};
 use std::fmt;
 
-// What a refusal can come from, from the outside in.
+// Where a refusal comes from: the line that was typed, the station, or the generator under it.
 #[derive(Clone, Copy, PartialEq, Eq, Debug)]
 pub enum Layer {
     Line,
@@ -51,49 +51,37 @@ impl GeneratorFault {
     pub fn layer(self) -> Layer
         ensures { λ r. ⌜ r ≡ generator-layer self ⌝ }
     {
-        Layer::Generator
+        match self {
+            GeneratorFault::KeyLength
+            | GeneratorFault::VariableTooLong
+            | GeneratorFault::VariableBytes
+            | GeneratorFault::TakeCount
+            | GeneratorFault::TakeBeyond => Layer::Generator,
+        }
     }
 }
 
-pub impl fmt::Display for GeneratorFault as GeneratorFaultDisplay {
-    ghost shown = { λ fault. Some (refusal-text (generator-number fault) (generator-layer fault)) };
-
-    fn fmt<W: fmt::Write>(&self, f: &mut fmt::Formatter<W>) -> fmt::Result {
-        let number = self.number();
-        let layer = self.layer();
-        write!(f, "{number} {layer}")
-    }
-}
-
-// Why a generator is not made.
+// Why a pad is not made.
 #[derive(Clone, Copy, PartialEq, Eq, Debug)]
-pub enum MakingFault {
-    PadLength,
+pub enum PadFault {
+    Length,
 }
 
-impl MakingFault {
+impl PadFault {
     pub fn number(self) -> u8
-        ensures { λ r. ⌜ r ≡ making-number self ⌝ }
+        ensures { λ r. ⌜ r ≡ pad-number self ⌝ }
     {
         match self {
-            MakingFault::PadLength => 28,
+            PadFault::Length => 28,
         }
     }
 
     pub fn layer(self) -> Layer
-        ensures { λ r. ⌜ r ≡ making-layer self ⌝ }
+        ensures { λ r. ⌜ r ≡ pad-layer self ⌝ }
     {
-        Layer::Generator
-    }
-}
-
-pub impl fmt::Display for MakingFault as MakingFaultDisplay {
-    ghost shown = { λ fault. Some (refusal-text (making-number fault) (making-layer fault)) };
-
-    fn fmt<W: fmt::Write>(&self, f: &mut fmt::Formatter<W>) -> fmt::Result {
-        let number = self.number();
-        let layer = self.layer();
-        write!(f, "{number} {layer}")
+        match self {
+            PadFault::Length => Layer::Generator,
+        }
     }
 }
 
@@ -139,6 +127,6 @@ pub impl From<GeneratorFault> for SpanFault as SpanFromGenerator {
     ghost converts = { λ below above. above ≡ spans.Generator below };
 
     fn from(fault: GeneratorFault) -> SpanFault {
-        SpanFault::Generator(fault)
+        Self::Generator(fault)
     }
 }

@@ -26,7 +26,6 @@ pub trait Generator {
     law fits: { (s : Self) → sound s → Fits (meaning s) (meant s) };
 
     fn kind_number(&self) -> u8
-        requires { ⌜ sound (now self) ⌝ }
         ensures { λ r. ⌜ r ≡ kind ⌝ };
 
     fn key_bits(&self) -> usize

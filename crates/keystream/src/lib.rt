@@ -1,7 +1,8 @@
-// Keystream generators: what each one means, why it refuses, and the bits of byte strings.
+// Keystream generators: what each one means, why it refuses, and how a keystream is applied to a span of bits.
 pub mod bits;
 pub mod fault;
 pub mod generator;
-pub mod hex;
 pub mod pad;
 pub mod span;
+#[cfg(test)]
+mod tests;

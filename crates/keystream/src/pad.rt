@@ -1,22 +1,22 @@
 // The pad kind: its keystream is read off 16 lines of 64 bytes that are handed in.
 ghost use mathlib.Core.Path.{_≡_};
-ghost use mathlib.Core.Bool.{true, false};
 ghost use mathlib.Core.List.{[], _∷_, map};
-ghost use Prim.Native.Nat.{ℕ, _≤_, _<_};
-ghost use lib.Dec.{eqb};
+ghost use Prim.Native.Nat.{_≤_, _<_, _^_};
 ghost use lib.ListN.{length};
 ghost use Rattle.std.specs.Iters.{counting};
 ghost use Rattle.std.specs.Results.{Cases};
-ghost use Rattle.keystream.specs.declared.fault.MakingFault.the-variants.{PadLength};
+ghost use Rattle.std.specs.declared.result.Result.the-variants.{Ok, Err};
 ghost use Rattle.keystream.specs.Bits.{as-number, first-bits};
-ghost use Rattle.keystream.specs.Meaning.{Fits, idle};
-ghost use Rattle.keystream.specs.PadKind.{pad-meaning, pad-bit, line-number, meaning-of, meant-of};
+ghost use Rattle.keystream.specs.Meaning.{idle};
+ghost use Rattle.keystream.specs.PadKind.{pad-kind, pad-meaning, pad-answer, pad-bit, line-number, meaning-of, meant-of, sound-of};
 use crate::bits::bit;
 use crate::fault::GeneratorFault;
-use crate::fault::MakingFault;
+use crate::fault::PadFault;
 use crate::generator::Generator;
 
 const PAD_BYTES: usize = 1024;
+
+const KEY_BYTES: usize = 1;
 
 const LINE_BITS: usize = 512;
 
@@ -24,7 +24,7 @@ const LONGEST: usize = 4;
 
 #[derive(Drop)]
 pub struct Pad {
-    bytes: [u8; 1024],
+    bytes: [u8; PAD_BYTES],
     stream: Option<Stream>,
 }
 
@@ -46,33 +46,54 @@ impl Stream {
     {
         usize::from(self.variable) >> (8 - self.count) << (LONGEST - self.count)
     }
+
+    // The keystream bit at a place.
+    fn bit(self, pad: &[u8], place: usize) -> bool
+        requires { ⌜ self .count ≤ 4 ⌝ ∗ ⌜ place < 2 ^ 63 ⌝ }
+        ensures { λ r. ⌜ r ≡ pad-bit (now (pad .entry)) (self .key ∷ []) (first-bits (self .count) (self .variable ∷ [])) place ⌝ }
+    {
+        bit(pad, LINE_BITS * self.line() + place) ^ bit(&[self.key], place % 8)
+    }
+
+    // The next n keystream bits as one number, the first most significant.
+    fn number(self, pad: &[u8], n: u32) -> u64
+        requires { ⌜ self .count ≤ 4 ⌝ ∗ ⌜ self .place ≤ 512 ⌝ ∗ ⌜ n ≤ 64 ⌝ }
+        ensures { λ r. ⌜ r ≡ as-number (map (pad-bit (now (pad .entry)) (self .key ∷ []) (first-bits (self .count) (self .variable ∷ []))) (counting (self .place) n)) ⌝ }
+    {
+        let mut word = 0;
+        for i in 0..n as usize {
+            word = word * 2 + u64::from(self.bit(pad, self.place + i));
+        }
+        word
+    }
 }
 
-// The next n keystream bits of a stream as one number, the first most significant.
-fn drawn(bytes: &[u8], stream: Stream, n: u32) -> u64
-    requires { ⌜ stream .count ≤ 4 ⌝ ∗ ⌜ stream .place ≤ 512 ⌝ ∗ ⌜ n ≤ 64 ⌝ }
-    ensures { λ r. ⌜ r ≡ as-number (map (pad-bit (now (bytes .entry)) (stream .key ∷ []) (first-bits (stream .count) (stream .variable ∷ []))) (counting (stream .place) n)) ⌝ }
+// The byte of a key of one byte.
+fn key_byte(key: &[u8]) -> u8
+    requires { ⌜ length (now key) ≡ 1 ⌝ }
+    ensures { λ r. ⌜ r ∷ [] ≡ now (key .entry) ⌝ }
 {
-    let line = LINE_BITS * stream.line();
-    let mut word = 0;
-    for i in 0..n as usize {
-        let place = stream.place + i;
-        let one = bit(bytes, line + place) ^ bit(&[stream.key], place % 8);
-        word = word * 2 + u64::from(one);
-    }
-    word
+    key[0]
+}
+
+// The byte that holds the bits of a short variable; 0 where it has none.
+fn variable_byte(count: usize, variable: &[u8]) -> u8
+    requires { ⌜ count ≤ 8 ⌝ }
+    ensures { λ r. ⌜ first-bits count (r ∷ []) ≡ first-bits count (now (variable .entry)) ⌝ }
+{
+    variable.first().copied().unwrap_or(0)
 }
 
 impl Pad {
-    pub fn new(bytes: &[u8]) -> Result<Pad, MakingFault>
+    pub fn new(bytes: &[u8]) -> Result<Pad, PadFault>
         ensures { λ r. ⌜ Cases r
-            (λ pad. (length (now (bytes .entry)) ≡ 1024) × (meaning-of pad ≡ pad-meaning (now (bytes .entry))) × (meant-of pad ≡ idle))
-            (λ fault. (length (now (bytes .entry)) ≡ 1024 → ⊥) × (fault ≡ PadLength)) ⌝ }
+            (λ pad. (pad-answer (now (bytes .entry)) ≡ Ok tt) × (meaning-of pad ≡ pad-meaning (now (bytes .entry))) × (meant-of pad ≡ idle) × sound-of pad)
+            (λ fault. pad-answer (now (bytes .entry)) ≡ Err fault) ⌝ }
     {
         if bytes.len() != PAD_BYTES {
-            return Err(MakingFault::PadLength);
+            return Err(PadFault::Length);
         }
-        let mut pad = [0; 1024];
+        let mut pad = [0; PAD_BYTES];
         pad.copy_from_slice(bytes);
         Ok(Pad {
             bytes: pad,
@@ -84,20 +105,20 @@ impl Pad {
 pub impl Generator for Pad as PadGenerator {
     const KIND: u8 = 2;
 
-    ghost kind = { 2 };
+    ghost kind = { pad-kind };
 
     ghost meaning = { meaning-of };
 
     ghost meant = { meant-of };
 
-    ghost sound = { λ pad. Fits (meaning-of pad) (meant-of pad) };
+    ghost sound = { sound-of };
 
     fn kind_number(&self) -> u8 {
         Self::KIND
     }
 
     fn key_bits(&self) -> usize {
-        8
+        8 * KEY_BYTES
     }
 
     fn longest(&self) -> usize {
@@ -116,7 +137,7 @@ pub impl Generator for Pad as PadGenerator {
     }
 
     fn check(&self, key: &[u8], count: usize, variable: &[u8]) -> Result<(), GeneratorFault> {
-        if key.len() != 1 {
+        if key.len() != KEY_BYTES {
             return Err(GeneratorFault::KeyLength);
         }
         if count > LONGEST {
@@ -131,9 +152,9 @@ pub impl Generator for Pad as PadGenerator {
     fn load(&mut self, key: &[u8], count: usize, variable: &[u8]) -> Result<(), GeneratorFault> {
         self.check(key, count, variable)?;
         self.stream = Some(Stream {
-            key: key[0],
+            key: key_byte(key),
             count,
-            variable: variable.first().copied().unwrap_or(0),
+            variable: variable_byte(count, variable),
             place: 0,
         });
         Ok(())
@@ -150,7 +171,7 @@ pub impl Generator for Pad as PadGenerator {
         if place > LINE_BITS {
             return Err(GeneratorFault::TakeBeyond);
         }
-        let word = drawn(&self.bytes, stream, n);
+        let word = stream.number(&self.bytes, n);
         self.stream = Some(Stream { place, ..stream });
         Ok(word)
     }

@@ -1,63 +1,51 @@
--- A message sealed under a key and a variable: a load, then the keystream from place 0 on over the whole message.
+-- A message sealed under a key and a variable, from place 0 on, and opened again. A refusal changes nothing.
 --
 --   begun key count variable  what a generator means after the load
+--   whether answer x y        x where a call is accepted, y where it is refused
 --   seal-answer, seal-message, seal-after  the answer, and the message and the generator afterwards
+--   exchange-answer           sealed by one generator and opened by another: the sender's refusal first, then the receiver's
 use mathlib.Core.List.{List}
+use mathlib.Core.Bool.{cond}
 use Prim.Native.Nat.{ℕ, _*_}
+use lib.Dec.{ltb}
 use lib.ListN.{length}
 use Rattle.std.specs.declared.result.Result.{Result}
 use Rattle.std.specs.declared.result.Result.the-variants.{Ok, Err}
+use Rattle.keystream.specs.declared.fault.GeneratorFault.the-variants.{TakeBeyond}
 use Rattle.keystream.specs.declared.fault.SpanFault.{SpanFault}
 use Rattle.keystream.specs.declared.fault.SpanFault.the-variants.{Generator}
 use Rattle.keystream.specs.Bits.{first-bits}
-use Rattle.keystream.specs.Meaning.{Meaning, Meant, Key, loaded}
+use Rattle.keystream.specs.Meaning.{Meaning, Meant, Key, loaded, keystream, moved}
 use Rattle.keystream.specs.Calls.{load-answer}
-use Rattle.keystream.specs.Span.{apply-answer, apply-buffer, apply-after}
+use Rattle.keystream.specs.Span.{sealed}
 
 abbrev pub begun : Key → ℕ → List ℕ → Meant
 begun key count variable = loaded key (first-bits count variable) 0
 
+abbrev pub whether : {X : Type 0} → Result (Unit {0}) SpanFault → X → X → X
+whether (Ok u) x y = x
+whether (Err fault) x y = y
+
+-- what load refuses, and then a message with more bits than the limit
 abbrev pub seal-answer : Meaning → Key → ℕ → List ℕ → List ℕ → Result (Unit {0}) SpanFault
 seal-answer m key count variable message =
     elim (load-answer m key count variable) [
       | Err fault ↦ Err (Generator fault)
-      | Ok x ↦ apply-answer m (begun key count variable) message 0 (8 * length message)
+      | Ok u ↦ cond (ltb (m .limit) (8 * length message)) (Err (Generator TakeBeyond)) (Ok tt)
     ]
 
 abbrev pub seal-message : Meaning → Key → ℕ → List ℕ → List ℕ → List ℕ
 seal-message m key count variable message =
-    elim (load-answer m key count variable) [
-      | Err fault ↦ message
-      | Ok x ↦ apply-buffer m (begun key count variable) message 0 (8 * length message)
-    ]
+    whether (seal-answer m key count variable message)
+    (sealed message 0 (keystream m (begun key count variable) (8 * length message)))
+    message
 
 abbrev pub seal-after : Meaning → Meant → Key → ℕ → List ℕ → List ℕ → Meant
 seal-after m s key count variable message =
-    elim (load-answer m key count variable) [
-      | Err fault ↦ s
-      | Ok x ↦ apply-after m (begun key count variable) message 0 (8 * length message)
-    ]
+    whether (seal-answer m key count variable message) (moved (begun key count variable) (8 * length message)) s
 
--- sealed by one generator, and what was sealed opened by another
 abbrev pub exchange-answer : Meaning → Meaning → Key → ℕ → List ℕ → List ℕ → Result (Unit {0}) SpanFault
 exchange-answer sender receiver key count variable message =
-    elim (seal-answer sender key count variable message) [
-      | Err fault ↦ Err fault
-      | Ok x ↦ seal-answer receiver key count variable (seal-message sender key count variable message)
-    ]
-
--- what the receiver has opened, where `before` stood there
-abbrev pub exchange-opened : Meaning → Meaning → Key → ℕ → List ℕ → List ℕ → List ℕ → List ℕ
-exchange-opened sender receiver key count variable message before =
-    elim (seal-answer sender key count variable message) [
-      | Err fault ↦ before
-      | Ok x ↦ seal-message receiver key count variable (seal-message sender key count variable message)
-    ]
-
--- what the receiver means afterwards
-abbrev pub exchange-after : Meaning → Meaning → Meant → Key → ℕ → List ℕ → List ℕ → Meant
-exchange-after sender receiver s key count variable message =
-    elim (seal-answer sender key count variable message) [
-      | Err fault ↦ s
-      | Ok x ↦ seal-after receiver s key count variable (seal-message sender key count variable message)
-    ]
+    whether (seal-answer sender key count variable message)
+    (seal-answer receiver key count variable message)
+    (seal-answer sender key count variable message)

@@ -1,16 +1,32 @@
 // Seals messages of a staff directory on a pad, and opens each again with a second generator.
 mod exchange;
+mod letter;
 mod pad_bytes;
+mod reply;
 
-use exchange::exchange;
-use keystream::fault::SpanFaultDisplay;
-use keystream::hex;
 use keystream::pad::Pad;
 use keystream::pad::PadGenerator;
+use letter::Letter;
+use letter::UnreadableDisplay;
 use pad_bytes::pad_bytes;
+use reply::reply;
 use std::error::AnyError;
 
-// Prints what was sealed and what was opened, or the refusal.
+// Sends one message over two pads of the same bytes, and prints the reply.
+fn deliver(rt: &LibcRuntime, letter: &Letter, message: &str) -> Result<(), AnyError> {
+    let heap = rt.alloc();
+    let bytes = pad_bytes();
+    let (Ok(sender), Ok(receiver)) = (Pad::new(&bytes), Pad::new(&bytes)) else {
+        return Err("the pad is not of 1,024 bytes".into());
+    };
+    let mut sealed = Vec::from_slice(heap, message.as_bytes())?;
+    let mut opened = vec![in heap; 0; message.len()]?;
+    let text = reply(heap, sender, receiver, letter, &mut sealed, &mut opened)?;
+    println!(rt, "{text}")?;
+    Ok(())
+}
+
+// Answers a letter of four lines.
 fn answer(
     rt: &LibcRuntime,
     key: &str,
@@ -18,57 +34,16 @@ fn answer(
     variable: &str,
     message: &str,
 ) -> Result<(), AnyError> {
-    let heap = rt.alloc();
-    let Some(key) = hex::read(heap, key.as_bytes())? else {
-        rt.println("unreadable key")?;
-        return Ok(());
-    };
-    let Ok(count) = count.parse::<usize>() else {
-        rt.println("unreadable bit count")?;
-        return Ok(());
-    };
-    let Some(variable) = hex::read(heap, variable.as_bytes())? else {
-        rt.println("unreadable variable")?;
-        return Ok(());
-    };
-    deliver(rt, &key, count, &variable, message)
-}
-
-// Sends one message over two pads of the same bytes.
-fn deliver(
-    rt: &LibcRuntime,
-    key: &[u8],
-    count: usize,
-    variable: &[u8],
-    message: &str,
-) -> Result<(), AnyError> {
-    let heap = rt.alloc();
-    let bytes = pad_bytes();
-    let (Ok(mut sender), Ok(mut receiver)) = (Pad::new(&bytes), Pad::new(&bytes)) else {
-        return Err("the pad is not 1,024 bytes".into());
-    };
-    let mut sealed = Vec::from_slice(heap, message.as_bytes())?;
-    let mut opened = Vec::from_slice(heap, message.as_bytes())?;
-    match exchange(
-        &mut sender,
-        &mut receiver,
-        key,
-        count,
-        variable,
-        &mut sealed,
-        &mut opened,
-    ) {
-        Ok(()) => {
-            let text = hex::text(heap, &sealed)?;
-            println!(rt, "sealed {text}")?;
-            let clear = std::str::from_utf8(&opened)?;
-            println!(rt, "clear {clear}")?;
+    match Letter::read(rt.alloc(), key, count, variable)? {
+        Ok(letter) => deliver(rt, &letter, message),
+        Err(line) => {
+            println!(rt, "unreadable {line}")?;
+            Ok(())
         }
-        Err(fault) => println!(rt, "no {fault}")?,
     }
-    Ok(())
 }
 
+// Answers the letters on standard input.
 fn run(rt: &LibcRuntime) -> Result<(), AnyError> {
     let heap = rt.alloc();
     let mut key = String::new(heap);
