@@ -1,4 +1,5 @@
 // Worked figures. Expected values come from the rules by hand or by another program.
+use crate::bits::bit;
 use crate::fault::GeneratorFault;
 use crate::fault::GeneratorFaultDebug;
 use crate::fault::GeneratorFaultPartialEq;
@@ -84,6 +85,17 @@ fn loads_refused() -> Result<(), Fail> {
     )?;
     check_eq(pad.check(&[0xa5], 4, &[0x3f]), Ok(()))?;
     check_eq(pad.left(), 0)
+}
+
+#[test]
+fn questions() -> Result<(), Fail> {
+    let pad = Pad::new(&[0x0f; 1024])?;
+    check_eq(pad.kind_number(), 2)?;
+    check_eq(pad.key_bits(), 8)?;
+    check_eq(pad.longest(), 4)?;
+    check_eq(pad.limit(), 512)?;
+    check(bit(&[0x80, 0x01], 0) && bit(&[0x80, 0x01], 15))?;
+    check(!bit(&[0x80, 0x01], 1) && !bit(&[0x80, 0x01], 16))
 }
 
 #[test]
