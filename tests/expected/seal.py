@@ -25,11 +25,12 @@ def answer(key, count, variable, message):
 
     if not hexadecimal(key):
         return ["unreadable key"]
-    if not (count.isascii() and count.isdigit()):
+    digits = count[1:] if count.startswith("+") else count
+    if not (digits.isascii() and digits.isdigit() and int(digits) < 2**64):
         return ["unreadable bit count"]
     if not hexadecimal(variable):
         return ["unreadable variable"]
-    key, count, variable = bytes.fromhex(key), int(count), bytes.fromhex(variable)
+    key, count, variable = bytes.fromhex(key), int(digits), bytes.fromhex(variable)
     text = message.encode()
     if len(key) != 1:
         return ["no 21 generator"]

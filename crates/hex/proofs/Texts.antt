@@ -33,6 +33,12 @@ hex-low (x ∷ bytes) (suc i) h =
 pub hex-digit-ascii : (d : ℕ) → d < 16 → hex-digit d < 128
 hex-digit-ascii d h = grind (arith, tells)
 
+pub bytes-push : (bytes : List ℕ) (b : ℕ) → Byte-string bytes → b < 256 → Byte-string (bytes ++ b ∷ [])
+bytes-push [] b all h zero = h
+bytes-push [] b all h (suc i) = omega arith
+bytes-push (x ∷ bytes) b all h zero = all 0
+bytes-push (x ∷ bytes) b all h (suc i) = bytes-push bytes b (λ j. all (suc j)) h i
+
 -- two characters more
 pub take-pair
     : (text : List ℕ) (i : ℕ) → 2 * i + 1 < length text

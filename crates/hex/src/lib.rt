@@ -49,7 +49,7 @@ pub fn text(heap: Global, bytes: &[u8]) -> Result<String, AllocError>
 pub fn read(heap: Global, text: &[u8]) -> Result<Option<Vec<u8>>, AllocError>
     ensures { λ r. ⌜ made r (λ found. Cases found
         ((bytes : List ℕ) → Byte-string bytes → hex-text bytes ≡ now (text .entry) → ⊥)
-        (λ bytes. hex-text (vec-items bytes) ≡ now (text .entry))) ⌝ }
+        (λ bytes. Byte-string (vec-items bytes) × (hex-text (vec-items bytes) ≡ now (text .entry)))) ⌝ }
 {
     if text.len() % 2 == 1 {
         return Ok(None);

@@ -6,7 +6,7 @@ ghost use Rattle.keystream.specs.Calls.{load-answer, load-after, take-answer, 
 use crate::fault::GeneratorFault;
 
 pub trait Generator {
-    // The number of the kind. A layer passes on that of the generator below.
+    // The number of the kind. A generator that stands on another has the number of the one below.
     const KIND: u8;
 
     // The same number, for contracts, which cannot name the constant in generic code.

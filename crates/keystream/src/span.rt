@@ -19,7 +19,7 @@ fn lay(buffer: &mut [u8], byte: usize, bit: usize, word: u64, count: u32)
     requires { ⌜ bit < 8 ⌝ ∗ ⌜ 0 < count ⌝ ∗ ⌜ count ≤ 64 ⌝ ∗ ⌜ word < 2 ^ count ⌝ ∗ ⌜ 8 * byte + bit + count ≤ 8 * length (now buffer) ⌝ }
     ensures { λ _. ⌜ now (buffer .exit) ≡ sealed (now (buffer .entry)) (8 * byte + bit) (bits-of count word) ⌝ }
 {
-    // 64 bits that begin inside a byte reach over at most nine
+    // 64 bits reach over at most nine bytes
     let mask = (u128::from(word) << (128 - bit - count as usize)).to_be_bytes();
     for j in 0..(buffer.len() - byte).min(9) {
         buffer[byte + j] ^= mask[j];

@@ -129,7 +129,7 @@ fn rising_pad() -> [u8; 1024] {
     bytes
 }
 
-// Spans of every alignment over the rising pad, key 3c, variable 1010.
+// Spans of several alignments and lengths over the rising pad, key 3c, variable 1010.
 #[test]
 fn spans() -> Result<(), Fail> {
     let bytes = rising_pad();

@@ -2,11 +2,11 @@
 --
 --   Hexadecimal text bytes  the text of these bytes
 --   Unhexadecimal text      the text of no byte string
---   Decimal text n          a numeral, after a plus or not, that writes n
---   Undecimal text          no such numeral of 64 bits
+--   Decimal text n          a numeral, after a plus or not, that writes n, below 2^64
+--   Undecimal text          no such numeral
 --   Reads-letter            what a letter's lines say
 --   Reads-none              the first line that says nothing
---   line-name               how that line is called
+--   line-name               what that line is called
 use mathlib.Core.List.{List}
 use mathlib.Core.Path.{_≡_}
 use Prim.Native.Nat.{ℕ, _^_, _<_}
@@ -19,13 +19,13 @@ use Rattle.seal.specs.declared.letter.Unreadable.{Unreadable}
 use Rattle.seal.specs.declared.letter.Unreadable.the-variants.{Key, BitCount, Variable}
 
 abbrev pub Hexadecimal : List ℕ → List ℕ → Type 0
-Hexadecimal text bytes = hex-text bytes ≡ text
+Hexadecimal text bytes = Byte-string bytes × (hex-text bytes ≡ text)
 
 abbrev pub Unhexadecimal : List ℕ → Type 0
 Unhexadecimal text = (bytes : List ℕ) → Byte-string bytes → hex-text bytes ≡ text → ⊥
 
 abbrev pub Decimal : List ℕ → ℕ → Type 0
-Decimal text n = Numeral 10 (afterPlus text) × (n ≡ value 10 (afterPlus text))
+Decimal text n = Numeral 10 (afterPlus text) × (value 10 (afterPlus text) < 2 ^ 64) × (n ≡ value 10 (afterPlus text))
 
 abbrev pub Undecimal : List ℕ → Type 0
 Undecimal text = Numeral 10 (afterPlus text) × (value 10 (afterPlus text) < 2 ^ 64) → ⊥

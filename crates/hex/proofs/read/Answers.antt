@@ -1,12 +1,12 @@
 use mathlib.Core.List.{[], _∷_, _++_}
-use mathlib.Core.Path.{_≡_, sym, ap, _∙_}
+use mathlib.Core.Path.{_≡_, sym, ap, _∙_, subst}
 use Prim.Native.Nat.{_+_, _*_, _/_, _%_, _<_}
 use native.Mathlib.Omega.{arith}
 use lib.ListN.{getD, take}
 use Rattle.std.specs.Of.Vec.{vec-items}
 use Rattle.std.proofs.shelf.Lists.{take-all}
-use Rattle.hex.specs.Digits.{hex-digit, hex-text}
-use Rattle.hex.proofs.Texts.{hex-push, take-pair, even-length, high-digit, low-digit}
+use Rattle.hex.specs.Digits.{hex-digit, hex-text, Byte-string}
+use Rattle.hex.proofs.Texts.{hex-push, bytes-push, take-pair, even-length, high-digit, low-digit}
 use Rattle.hex.proofs.read.Needs as need
 
 pub returns-then-text-eq1 : need.returns-then-text-eq1
@@ -35,12 +35,18 @@ loop-i-again c =
     = ap hex-digit quotient ∙ c .in-Some .ensures tt .1 ∙ c .from .ensures in
     let hex-low : hex-digit ((16 * high + low) % 16) ≡ getD text (2 * i + 1) 0
     = ap hex-digit rest ∙ c .in-Some-value .ensures tt .1 ∙ c .from-in-loop-i .ensures in
-    ap hex-text (c .in-Continue-push .ensures tt .items)
+    let small-byte : 16 * high + low < 256 = let h = c .in-Some .ensures tt .0 in omega arith in
+    let spells : hex-text (vec-items (c .push .last .self)) ≡ take (2 * (i + 1)) text
+    = ap hex-text (c .in-Continue-push .ensures tt .items)
     ∙ hex-push (vec-items (c .loop-i .bytes)) (16 * high + low)
-    ∙ ap (λ t. t ++ (hex-digit ((16 * high + low) / 16) ∷ hex-digit ((16 * high + low) % 16) ∷ [])) (c .loop-i .inv)
+    ∙ ap (λ t. t ++ (hex-digit ((16 * high + low) / 16) ∷ hex-digit ((16 * high + low) % 16) ∷ [])) (c .loop-i .inv .1)
     ∙ ap (λ x. take (2 * i) text ++ (x ∷ hex-digit ((16 * high + low) % 16) ∷ [])) hex-high
     ∙ ap (λ x. take (2 * i) text ++ (getD text (2 * i) 0 ∷ x ∷ [])) hex-low
-    ∙ sym (take-pair text i (omega arith))
+    ∙ sym (take-pair text i (omega arith)) in
+    let bytes : Byte-string (vec-items (c .push .last .self))
+    = subst Byte-string (sym (c .in-Continue-push .ensures tt .items))
+    (bytes-push (vec-items (c .loop-i .bytes)) (16 * high + low) (c .loop-i .inv .0) small-byte) in
+    (bytes, spells)
 
 pub returns : need.returns
-returns c = c .loop-i .inv ∙ take-all (2 * c .loop-i .i) (c .args .text .now) (omega arith)
+returns c = (c .loop-i .inv .0, c .loop-i .inv .1 ∙ take-all (2 * c .loop-i .i) (c .args .text .now) (omega arith))
