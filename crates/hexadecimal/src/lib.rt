@@ -1,4 +1,6 @@
 // Byte strings as hexadecimal text: two digits to a byte, '0' to '9' and 'a' to 'f'.
+#![tactic(auto)]
+
 ghost use Rattle.std.specs.Prelude.{◌≡◌, ℕ, ◌<◌, List, IfOk, string_bytes, MatchOption, ◌≢◌};
 ghost use Rattle.hexadecimal.specs.Digits.{hex_digit, hex_text, ByteString};
 

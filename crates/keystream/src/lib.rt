@@ -1,4 +1,6 @@
 // Keystream generators: what each one means, why it refuses, and how a keystream is applied to a span of bits.
+#![tactic(auto)]
+
 pub mod ahead;
 pub mod bits;
 mod buffer;

@@ -1,4 +1,6 @@
 // Seals messages of a staff directory on a pad, and opens each again with a second generator.
+#![tactic(auto)]
+
 mod exchange;
 mod letter;
 mod pad_bytes;

@@ -7,15 +7,15 @@ use Rattle.hexadecimal.proofs.read.Goals as goal
 pub returns-then-text-eq1 : goal.returns-then-text-eq1
 returns-then-text-eq1 c bytes byte_string spells = omega (arith, even_length c.args.text.now bytes byte_string spells)
 
-pub returns-in-default : goal.returns-in-default
-returns-in-default c bytes byte_string spells =
+pub returns-in_default : goal.returns-in_default
+returns-in_default c bytes byte_string spells =
     high_digit c.args.text.now bytes byte_string spells c.loop-i.i (omega arith)
-    (λ d h e. c.in-default.ensures d h (e ∙ sym c.from.ensures))
+    (λ d h e. c.in_default.ensures d h (e ∙ sym c.from.ensures))
 
-pub returns-in-default-value : goal.returns-in-default-value
-returns-in-default-value c bytes byte_string spells =
+pub returns-in_default-value : goal.returns-in_default-value
+returns-in_default-value c bytes byte_string spells =
     low_digit c.args.text.now bytes byte_string spells c.loop-i.i (omega arith)
-    (λ d h e. c.in-default-value.ensures d h (e ∙ sym c.from-in-loop-i.ensures))
+    (λ d h e. c.in_default-value.ensures d h (e ∙ sym c.from-in-loop-i.ensures))
 
 pub loop-i-preserved : goal.loop-i-preserved
 loop-i-preserved c =
@@ -32,14 +32,14 @@ loop-i-preserved c =
     = ap hex_digit rest ∙ c.in-Some-value.ensures.1 ∙ c.from-in-loop-i.ensures in
     let small_byte : 16 * high + low < 256 = let h = c.in-Some.ensures.0 in omega arith in
     let spells : hex_text (vec_items c.push.new.self) ≡ take (2 * (i + 1)) text
-    = ap hex_text c.in-ok-push.ensures.items
+    = ap hex_text c.in_ok-push.ensures.items
     ∙ hex_push (vec_items c.loop-i.bytes) (16 * high + low)
     ∙ ap (λ t. t ++ (hex_digit ((16 * high + low) / 16) ∷ hex_digit ((16 * high + low) % 16) ∷ [])) c.loop-i.invariant.1
     ∙ ap (λ x. take (2 * i) text ++ (x ∷ hex_digit ((16 * high + low) % 16) ∷ [])) hex_high
     ∙ ap (λ x. take (2 * i) text ++ (get_or text (2 * i) 0 ∷ x ∷ [])) hex_low
     ∙ sym (take_pair text i (omega arith)) in
     let bytes : ByteString (vec_items c.push.new.self)
-    = subst ByteString (sym c.in-ok-push.ensures.items)
+    = subst ByteString (sym c.in_ok-push.ensures.items)
     (bytes_push (vec_items c.loop-i.bytes) (16 * high + low) c.loop-i.invariant.0 small_byte) in
     (bytes, spells)
 

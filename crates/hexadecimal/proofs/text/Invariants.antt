@@ -3,4 +3,4 @@ use Rattle.hexadecimal.specs.Digits.{hex_text}
 use Rattle.hexadecimal.proofs.text.Given as goal
 
 abbrev pub invariant-loop-byte : goal.invariant-loop-byte
-invariant-loop-byte l = string_bytes l.text ≡ hex_text (take l.byte_index l.bytes)
+invariant-loop-byte l = string_bytes l.text ≡ hex_text (take l.byte-index l.bytes)

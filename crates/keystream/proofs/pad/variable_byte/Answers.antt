@@ -14,7 +14,7 @@ pub returns : goal.returns
 returns c =
     let count = c.args.count in
     let variable = c.args.variable.now in
-    let byte : c.unwrap-or.result ≡ get_or variable 0 0
-    = c.unwrap-or.ensures ∙ ap (λ (o : Option ℕ). unwrap_or o 0) c.copied.ensures
+    let byte : c.unwrap_or.result ≡ get_or variable 0 0
+    = c.unwrap_or.ensures ∙ ap (λ (o : Option ℕ). unwrap_or o 0) c.copied.ensures
     ∙ first_or_zero variable c.first.result c.first.ensures.item in
     ap (λ x. first_bits count (x ∷ [])) byte ∙ sym (first_bits_of_byte count variable c.requires)

@@ -29,7 +29,7 @@ lay-requires g c =
     let low : 0 < k = omega arith in
     let high : k ≤ 64 = omega arith in
     let within : done + k ≤ left m s = omega arith in
-    let word = drawn_word m _ s _ done k inv.1 inv.2 low high within c.in-ok-word.word c.in-ok-word.ensures.answer in (
+    let word = drawn_word m _ s _ done k inv.1 inv.2 low high within c.in_ok-word.word c.in_ok-word.ensures.answer in (
       omega arith,
       (low, (high, (subst (λ (x : ℕ). x < 2 ^ k) (sym word) (keystream_below m (moved s done) k), omega arith))),
     )
@@ -42,9 +42,9 @@ loop-done-preserved g c =
     let first = c.args.first in
     let done = c.loop-done.done in
     let k = c.min-count.result in
-    let word = c.in-ok-word.word in
+    let word = c.in_ok-word.word in
     let inv = c.loop-done.invariant in
-    let took = c.in-ok-word.ensures in
+    let took = c.in_ok-word.ensures in
     let low : 0 < k = omega arith in
     let high : k ≤ 64 = omega arith in
     let within : done + k ≤ left m s = omega arith in

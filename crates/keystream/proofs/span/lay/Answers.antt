@@ -21,12 +21,12 @@ returns c =
     let word = c.args.word in
     let count = c.args.count in
     let bit = c.args.bit in
-    let mask = c.to-be-bytes-mask.result in
+    let mask = c.to_be_bytes-mask.result in
     let shift = 128 - bit - count in
     let moved : c.from.result * 2 ^ shift % 2 ^ 128 ≡ word * 2 ^ shift
     = ap (λ (x : ℕ). x * 2 ^ shift % 2 ^ 128) c.from.ensures ∙ shl_whole word count shift 128 (omega arith) (omega arith) in
     let masks : (b : ℕ) → b < 15 → get_or mask b 0 ≡ word * 2 ^ shift / 2 ^ (120 - 8 * b) % 256
     = λ b h.
-    ap (λ l. get_or l b 0) c.to-be-bytes-mask.ensures ∙ ap (λ (x : ℕ). get_or (bytes_of x) b 0) moved ∙ bytes_at (word * 2 ^ shift) b h in
+    ap (λ l. get_or l b 0) c.to_be_bytes-mask.ensures ∙ ap (λ (x : ℕ). get_or (bytes_of x) b 0) moved ∙ bytes_at (word * 2 ^ shift) b h in
     laid_over c.args.buffer.now c.loop-j.buffer mask word count c.args.byte bit c.loop-j.j (omega arith) (omega arith) (omega arith)
     c.loop-j.auto.buffer (omega arith) masks c.loop-j.invariant.0 c.loop-j.invariant.1 c.loop-j.invariant.2

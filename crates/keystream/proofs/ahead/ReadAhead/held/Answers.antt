@@ -8,12 +8,12 @@ returns g c =
     let m = g.G.Generator.meaning c.args.self.now.below in
     let s = g.G.Generator.meant c.args.self.now.below in
     let b = c.args.self.now.buffer in
-    let h = c.requires.0.0 in
+    let h = c.requires.sound.0 in
     let n = c.args.n in
-    let l = c.requires.1.1 in
+    let l = c.requires.held.1 in
     record {
       answer = c.next.ensures.answer ∙ held_front m s b h n l;
       after = ap (back s) c.next.ensures.count ∙ held_after m s b h n l;
       same = refl;
-      kept = (held_rest m s b h n l c.next.new.self c.next.ensures.word c.next.ensures.count, c.requires.0.1);
+      kept = (held_rest m s b h n l c.next.new.self c.next.ensures.word c.next.ensures.count, c.requires.sound.1);
     }

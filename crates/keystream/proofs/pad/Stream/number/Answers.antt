@@ -16,11 +16,11 @@ flag : (b : Bool) → bool_byte b ≡ cond b 1 0
 flag true = refl
 flag false = refl
 
-pub overflow-mul-word : goal.overflow-mul-word
-overflow-mul-word c = let h = room _ _ c.loop-i.i c.loop-i.word c.loop-i.invariant (omega arith) in search rules
+pub overflow_mul-word : goal.overflow_mul-word
+overflow_mul-word c = let h = room _ _ c.loop-i.i c.loop-i.word c.loop-i.invariant (omega arith) in search rules
 
-pub overflow-add-word : goal.overflow-add-word
-overflow-add-word c = let h = room _ _ c.loop-i.i c.loop-i.word c.loop-i.invariant (omega arith) in search rules
+pub overflow_add-word : goal.overflow_add-word
+overflow_add-word c = let h = room _ _ c.loop-i.i c.loop-i.word c.loop-i.invariant (omega arith) in search rules
 
 pub loop-i-preserved : goal.loop-i-preserved
 loop-i-preserved c =
