@@ -73,7 +73,7 @@ mod tests {
         let heap = rt.alloc();
         assert_eq!(rt; text(heap, &[0x00, 0x9a, 0xf0])?.as_str(), "009af0");
         let bytes = read(heap, b"009af0")?.ok_or("unreadable")?;
-        assert_eq!(rt; bytes.as_slice(), &[0x00, 0x9a, 0xf0]);
+        assert_eq!(rt; bytes.as_slice(), [0x00, 0x9a, 0xf0].as_slice());
         assert!(rt; read(heap, b"0")?.is_none());
         assert!(rt; read(heap, b"0A")?.is_none());
         assert!(rt; read(heap, b"g0")?.is_none());

@@ -9,7 +9,7 @@
 --
 -- From the library: counting a n is the list a, a + 1, .. of n numbers; get_or xs i d is element i, or d past the end;
 -- cond b x y is x where b is true, else y; eqb, ltb and leb test =, < and ≤.
-use Rattle.std.specs.Prelude.{ℕ, ◌+◌, ◌-◌, ◌*◌, ◌/◌, ◌%◌, ◌^◌, Bool, cond, not, eqb, List, [], ◌∷◌, map, length, get_or, ◌==◌, nat_eq, slice_index}
+use Rattle.std.specs.Prelude.{ℕ, ◌+◌, ◌-◌, ◌*◌, ◌/◌, ◌%◌, ◌^◌, Bool, cond, not, List, [], ◌∷◌, map, length, ◌==◌, nat_eq, slice_index}
 use Rattle.std.specs.Bool.{beq}
 use Rattle.std.specs.List.{range_with_len}
 
