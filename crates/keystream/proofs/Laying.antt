@@ -8,7 +8,7 @@ use Rattle.std.proofs.lemmas.List.{ext_get_or}
 use Rattle.std.proofs.lemmas.Bool.{cases_lt}
 use Rattle.keystream.specs.Bits.{byte_of, bits_of}
 use Rattle.keystream.specs.Span.{laid, sealed}
-use Rattle.keystream.specs.Bytes.{low_byte, byte_of_same}
+use Rattle.keystream.proofs.Bytes.{low_byte, byte_of_same}
 use Rattle.keystream.proofs.Sealing.{laid_before, laid_at, laid_past, sealed_length, sealed_at, sealed_clear}
 
 pub bits_of_length : (n x : ℕ) → length (bits_of n x) ≡ n

@@ -6,7 +6,7 @@ use Rattle.std.proofs.lemmas.List.{get_or_past, get_or_append_left, get_or-appen
 use Rattle.std.proofs.lemmas.Bool.{cases_lt, le-leb, lt-leb}
 use Rattle.keystream.specs.Bits.{◌⊕◌, bit_at, byte_of}
 use Rattle.keystream.specs.Span.{laid, sealed}
-use Rattle.keystream.specs.Bytes.{byte_of_same, byte_of_zeros, byte_of_xor, bit_of_byte, xor_bit}
+use Rattle.keystream.proofs.Bytes.{byte_of_same, byte_of_zeros, byte_of_xor, bit_of_byte, xor_bit}
 
 xor_false : (a : Bool) → a ⊕ false ≡ a
 xor_false true = refl

@@ -4,7 +4,7 @@ use Rattle.std.proofs.lemmas.Nat.{pow_pos, shr_high, mod_low}
 use Rattle.std.proofs.lemmas.List.FromFn.{length-map-range_with_len}
 use Rattle.keystream.specs.Bits.{as_number, bits_of}
 use Rattle.keystream.specs.Meaning.{Meaning, Meant, idle, loaded, left, keystream, moved}
-use Rattle.keystream.specs.Numbers.{as_number-append, run_append, run_below, bits_of_run}
+use Rattle.keystream.proofs.Numbers.{as_number-append, run_append, run_below, bits_of_run}
 
 pub moved_none : (s : Meant) → moved s 0 ≡ s
 moved_none idle = refl

@@ -3,9 +3,7 @@ pub mod Meaning
 pub mod Refusals
 pub mod Calls
 pub mod PadKind
+pub mod PadLaws
 pub mod Capped
 pub mod Ahead
 pub mod Span
-pub mod Bytes
-pub mod Numbers
-pub mod PadGeneratorLemmas

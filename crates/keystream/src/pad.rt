@@ -4,7 +4,7 @@ ghost use Rattle.std.specs.List.{range_with_len};
 ghost use Rattle.keystream.specs.Bits.{as_number, first_bits};
 ghost use Rattle.keystream.specs.Meaning.{idle};
 ghost use Rattle.keystream.specs.PadKind.{pad_kind, pad_meaning, pad_answer, pad_bit, line_number, meaning_of, meant_of, sound_of};
-ghost use Rattle.keystream.specs.PadGeneratorLemmas.{stream_fits};
+ghost use Rattle.keystream.specs.PadLaws.{stream_fits};
 ghost use Rattle.std.proofs.Common.{rules};
 
 use crate::bits::bit;

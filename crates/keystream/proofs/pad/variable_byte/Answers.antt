@@ -3,7 +3,7 @@ use Rattle.std.specs.Option.{option_map}
 use Rattle.std.specs.Slice.{IsGetResult}
 use Rattle.std.proofs.lemmas.List.{get_or_past, get_or_read}
 use Rattle.keystream.specs.Bits.{first_bits}
-use Rattle.keystream.specs.Bytes.{first_bits_of_byte}
+use Rattle.keystream.proofs.Bytes.{first_bits_of_byte}
 use Rattle.keystream.proofs.pad.variable_byte.Goals as goal
 
 first_or_zero : (bytes : List ℕ) (o : Option (Bor ℕ)) → IsGetResult bytes 0 0 o → unwrap_or (option_map (λ x. x.now) o) 0 ≡ get_or bytes 0 0

@@ -3,7 +3,7 @@ use mir.Val.{bool_byte}
 use Rattle.std.specs.List.{range_with_len}
 use Rattle.keystream.specs.Bits.{first_bits, as_number}
 use Rattle.keystream.specs.PadKind.{pad_bit}
-use Rattle.keystream.specs.Numbers.{as_number_more, run_below}
+use Rattle.keystream.proofs.Numbers.{as_number_more, run_below}
 use Rattle.keystream.proofs.pad.Stream.number.Goals as goal
 
 -- a word of fewer than 64 bits can take one more

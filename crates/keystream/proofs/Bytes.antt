@@ -1,10 +1,9 @@
 -- Bytes and their bits.
-use Rattle.std.specs.Prelude.{◌≡◌, ℕ, zero, suc, ◌+◌, ◌-◌, ◌/◌, ◌%◌, ◌^◌, ◌<◌, ◌≤◌, Bool, false, List, [], ◌∷◌, length, ◌==◌, bit_xor, nat_eq, slice_index, refl}
+use Rattle.std.specs.Prelude.{◌≡◌, ℕ, zero, suc, ◌+◌, ◌-◌, ◌/◌, ◌%◌, ◌^◌, ◌<◌, ◌≤◌, Bool, false, List, [], ◌∷◌, ◌==◌, bit_xor, nat_eq, slice_index, refl}
 use Rattle.std.proofs.Common.{sym, ap, ◌∙◌, subst, zero-add, mod-eq_of_lt, arith}
 use Rattle.std.proofs.lemmas.Nat.{shr_below, mod_below, xor_shr, xor_mod}
-use Rattle.std.proofs.lemmas.List.FromFn.{length-map-range_with_len}
 use Rattle.keystream.specs.Bits.{◌⊕◌, bit_at, first_bits, byte_of, as_number}
-use Rattle.keystream.specs.Numbers.{leading_bits, run_same, xor_runs, bit_of_run}
+use Rattle.keystream.proofs.Numbers.{leading_bits, run_same, xor_runs, bit_of_run}
 
 -- the lowest byte of a number is made of its lowest eight bits
 pub low_byte : (x : ℕ) → byte_of (λ k. nat_eq (x / 2 ^ (7 - k) % 2) 1) ≡ x % 2 ^ 8
@@ -48,10 +47,6 @@ xor_bit a b d =
 pub first_bits_of_byte : (n : ℕ) (bytes : List ℕ) → n ≤ 8 → first_bits n bytes ≡ first_bits n (slice_index bytes 0 ∷ [])
 unfolding first_bits
 first_bits_of_byte n bytes l = run_same _ _ 0 0 n (λ k g. let q : (0 + k) / 8 ≡ 0 = omega arith in rw q)
-
-pub first_bits_length : (n : ℕ) (bytes : List ℕ) → length (first_bits n bytes) ≡ n
-unfolding first_bits
-first_bits_length n bytes = length-map-range_with_len (bit_at bytes) 0 n
 
 pub number_of_first_bits : (v n : ℕ) → v < 2 ^ 8 → n ≤ 8 → as_number (first_bits n (v ∷ [])) ≡ v / 2 ^ (8 - n)
 unfolding first_bits
