@@ -34,7 +34,8 @@ impl<G: Generator> ReadAhead<G> {
     // The next n bits, out of the buffer.
     fn held(&mut self, n: u32) -> u64
         requires sound { ahead_sound G.Generator.meaning G.Generator.meant G.Generator.sound self.old }
-        requires held { (0 < n) × (n ≤ self.old.buffer.count) }
+        requires some { 0 < n }
+        requires held { n ≤ self.old.buffer.count }
         ensures answer { result ≡ as_number (keystream (ahead_meaning G.Generator.meaning self.old) (ahead_meant G.Generator.meant self.old) n) }
         ensures after { ahead_meant G.Generator.meant self.new ≡ moved (ahead_meant G.Generator.meant self.old) n }
         ensures same { ahead_meaning G.Generator.meaning self.new ≡ ahead_meaning G.Generator.meaning self.old }

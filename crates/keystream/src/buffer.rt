@@ -11,14 +11,17 @@ pub(crate) struct Buffer {
 
 impl Buffer {
     pub(crate) fn empty() -> Buffer
-        ensures { (result.word ≡ 0) × (result.count ≡ 0) }
+        ensures word { result.word ≡ 0 }
+        ensures count { result.count ≡ 0 }
     {
         Buffer { word: 0, count: 0 }
     }
 
     // Takes the first n bits out.
     pub(crate) fn next(&mut self, n: u32) -> u64
-        requires { (0 < n) × ((n ≤ self.old.count) × (self.old.count ≤ 64)) }
+        requires some { 0 < n }
+        requires held { n ≤ self.old.count }
+        requires most { self.old.count ≤ 64 }
         ensures answer { result ≡ self.old.word / 2 ^ (self.old.count - n) }
         ensures word { self.new.word ≡ self.old.word % 2 ^ (self.old.count - n) }
         ensures count { self.new.count ≡ self.old.count - n }

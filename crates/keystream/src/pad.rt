@@ -46,7 +46,8 @@ impl Stream {
 
     // The keystream bit at a place.
     fn bit(self, pad: &[u8], place: usize) -> bool
-        requires { (self.count ≤ 4) × (place < 2 ^ 63) }
+        requires count { self.count ≤ 4 }
+        requires place { place < 2 ^ 63 }
         ensures { result ≡ pad_bit pad.now (self.key ∷ []) (first_bits self.count (self.variable ∷ [])) place }
     {
         bit(pad, LINE_BITS * self.line() + place) ^ bit(&[self.key], place % 8)
@@ -54,7 +55,9 @@ impl Stream {
 
     // The next n keystream bits as one number, the first most significant.
     fn number(self, pad: &[u8], n: u32) -> u64
-        requires { (self.count ≤ 4) × ((self.place ≤ 512) × (n ≤ 64)) }
+        requires count { self.count ≤ 4 }
+        requires place { self.place ≤ 512 }
+        requires most { n ≤ 64 }
         ensures { result ≡ as_number (map (pad_bit pad.now (self.key ∷ []) (first_bits self.count (self.variable ∷ []))) (range_with_len self.place n)) }
     {
         let mut word = 0;

@@ -55,7 +55,9 @@ pub(crate) fn exchange<G: Generator, H: Generator>(
     message: &mut [u8],
     opened: &mut [u8],
 ) -> Result<(), SpanFault>
-    requires { (G.Generator.sound sender.old) × ((H.Generator.sound receiver.old) × (length opened.old ≡ length message.old)) }
+    requires sender { G.Generator.sound sender.old }
+    requires receiver { H.Generator.sound receiver.old }
+    requires lengths { length opened.old ≡ length message.old }
     ensures answer { result ≡ exchange_answer (G.Generator.meaning sender.old) (H.Generator.meaning receiver.old) key.now count variable.now message.old }
     ensures message { message.new ≡ whether (exchange_answer (G.Generator.meaning sender.old) (H.Generator.meaning receiver.old) key.now count variable.now message.old) (seal_message (G.Generator.meaning sender.old) key.now count variable.now message.old) message.old }
     ensures opened { opened.new ≡ whether (exchange_answer (G.Generator.meaning sender.old) (H.Generator.meaning receiver.old) key.now count variable.now message.old) (seal_message (H.Generator.meaning receiver.old) key.now count variable.now (seal_message (G.Generator.meaning sender.old) key.now count variable.now message.old)) opened.old }

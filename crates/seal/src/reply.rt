@@ -29,8 +29,11 @@ pub(crate) fn reply<G: Generator + Drop>(
     message: &mut [u8],
     opened: &mut [u8],
 ) -> Result<String, AllocError>
-    requires sound { (G.Generator.sound sender) × ((G.Generator.sound receiver) × (G.Generator.meaning receiver ≡ G.Generator.meaning sender)) }
-    requires utf8 { (IsUtf8 message.old) × (length opened.old ≡ length message.old) }
+    requires sender { G.Generator.sound sender }
+    requires receiver { G.Generator.sound receiver }
+    requires same { G.Generator.meaning receiver ≡ G.Generator.meaning sender }
+    requires utf8 { IsUtf8 message.old }
+    requires lengths { length opened.old ≡ length message.old }
     ensures text { IfOk result (λ text. string_bytes text ≡ reply_text (G.Generator.meaning sender) letter.now.key.items letter.now.count letter.now.variable.items message.old) }
     ensures message { message.new ≡ seal_message (G.Generator.meaning sender) letter.now.key.items letter.now.count letter.now.variable.items message.old }
     ensures opened { opened.new ≡ whether (seal_answer (G.Generator.meaning sender) letter.now.key.items letter.now.count letter.now.variable.items message.old) message.old opened.old }

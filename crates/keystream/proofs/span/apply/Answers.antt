@@ -19,8 +19,8 @@ loop-done-init g c =
       sym (ap (sealed buffer c.args.first) (keystream_none m s) ∙ sealed_none buffer c.args.first),
     )
 
-pub lay-requires : goal.lay-requires
-lay-requires g c =
+pub lay-requires-clause-word : goal.lay-requires-clause-word
+lay-requires-clause-word g c =
     let m = g.G.Generator.meaning c.args.generator.now in
     let s = g.G.Generator.meant c.args.generator.now in
     let done = c.loop-done.done in
@@ -29,10 +29,8 @@ lay-requires g c =
     let low : 0 < k = omega arith in
     let high : k ≤ 64 = omega arith in
     let within : done + k ≤ left m s = omega arith in
-    let word = drawn_word m _ s _ done k inv.1 inv.2 low high within c.in_ok-word.word c.in_ok-word.ensures.answer in (
-      omega arith,
-      (low, (high, (subst (λ (x : ℕ). x < 2 ^ k) (sym word) (keystream_below m (moved s done) k), omega arith))),
-    )
+    let word = drawn_word m _ s _ done k inv.1 inv.2 low high within c.in_ok-word.word c.in_ok-word.ensures.answer in
+    subst (λ (x : ℕ). x < 2 ^ k) (sym word) (keystream_below m (moved s done) k)
 
 pub loop-done-preserved : goal.loop-done-preserved
 loop-done-preserved g c =

@@ -10,7 +10,7 @@ returns g c =
     let b = c.args.self.now.buffer in
     let h = c.requires.sound.0 in
     let n = c.args.n in
-    let l = c.requires.held.1 in
+    let l = c.requires.held in
     record {
       answer = c.next.ensures.answer ∙ held_front m s b h n l;
       after = ap (back s) c.next.ensures.count ∙ held_after m s b h n l;
