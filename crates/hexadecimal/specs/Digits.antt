@@ -2,7 +2,7 @@
 --
 --   hex_digit d    the character of a digit: '0' to '9', then 'a' to 'f'
 --   hex_text bytes two digits to a byte
---   ByteString    numbers below 256
+--   ByteString     numbers below 256
 use Rattle.std.specs.Prelude.{ℕ, ◌+◌, ◌-◌, ◌/◌, ◌%◌, ◌<◌, cond, List, [], ◌∷◌, nat_lt, slice_index}
 
 abbrev pub hex_digit : ℕ → ℕ

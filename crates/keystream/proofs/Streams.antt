@@ -54,7 +54,7 @@ module _ (m : Meaning) (s : Meant) (a b : ℕ) where
   pub keystream_rest : as_number (keystream m s (a + b)) % 2 ^ b ≡ as_number (keystream m (moved s a) b)
   keystream_rest = rw keystream_joined (mod_low _ b _ (keystream_below m (moved s a) b))
 
--- and those bits are the keystream
+-- the bits of the number of n keystream bits are those bits
 pub bits_of_keystream : (m : Meaning) (s : Meant) (n : ℕ) → n ≤ left m s → bits_of n (as_number (keystream m s n)) ≡ keystream m s n
 unfolding bits_of
 bits_of_keystream m idle n h =

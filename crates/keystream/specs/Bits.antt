@@ -7,8 +7,9 @@
 --   bits_of n x       the lowest n bits of a number, the most significant of them first
 --   byte_of f         the byte whose bits 0 to 7 are f 0 to f 7
 --
--- From the library: range_with_len a n is the list a, a + 1, .. of n numbers; slice_index xs i is element i, or 0 past the end;
--- cond b x y is x where b is true, else y; beq tests Booleans, and nat_eq (also written ==), nat_lt and nat_le test =, < and ≤.
+-- From the library: range_with_len a n is the list a, a + 1, .. of n numbers; slice_index xs i is element i, or 0 past the end,
+-- and slice_index_or xs i d is it, or d past the end; cond b x y is x where b is true, else y;
+-- beq tests Booleans, and nat_eq (also written ==), nat_lt and nat_le test =, < and ≤.
 use Rattle.std.specs.Prelude.{ℕ, ◌+◌, ◌-◌, ◌*◌, ◌/◌, ◌%◌, ◌^◌, Bool, cond, not, List, [], ◌∷◌, map, length, ◌==◌, nat_eq, slice_index}
 use Rattle.std.specs.Bool.{beq}
 use Rattle.std.specs.List.{range_with_len}

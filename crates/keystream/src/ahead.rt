@@ -1,5 +1,5 @@
 // The read-ahead: any generator, with up to 64 bits already drawn from it.
-ghost use Rattle.std.specs.Prelude.{◌≡◌, ℕ, ◌+◌, ◌-◌, ◌*◌, ◌/◌, ◌%◌, ◌^◌, ◌<◌, ◌≤◌, min, Ok, Err};
+ghost use Rattle.std.specs.Prelude.{◌≡◌, ◌<◌, ◌≤◌, min, Ok};
 ghost use Rattle.keystream.specs.Bits.{as_number};
 ghost use Rattle.keystream.specs.Meaning.{idle, left, keystream, moved};
 ghost use Rattle.keystream.specs.Ahead.{ahead_meaning, ahead_meant, ahead_sound};

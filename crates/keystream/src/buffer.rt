@@ -1,5 +1,5 @@
 // A plain buffer of up to 64 bits, the first most significant.
-ghost use Rattle.std.specs.Prelude.{◌≡◌, ℕ, ◌+◌, ◌-◌, ◌*◌, ◌/◌, ◌%◌, ◌^◌, ◌<◌, ◌≤◌};
+ghost use Rattle.std.specs.Prelude.{◌≡◌, ℕ, ◌+◌, ◌-◌, ◌/◌, ◌%◌, ◌^◌, ◌<◌, ◌≤◌};
 ghost use Rattle.keystream.specs.Bits.{as_number};
 ghost use Rattle.keystream.specs.Meaning.{Meaning, Meant, keystream, moved};
 
@@ -42,7 +42,7 @@ fn low(word: u64, count: u32) -> u64
     word & ((1 << count) - 1)
 }
 
-// The bits of `high` and after them the `count` bits of `low`, as one number of 64 bits.
+// The bits of `high` and after them the `count` bits of `low`, as one number of at most 64 bits.
 pub(crate) fn joined(high: u64, low: u64, count: u32) -> u64
     requires { count ≤ 64 }
     ensures { (m : Meaning) (s : Meant) (n total : ℕ) → n + count ≡ total → total ≤ 64 → high ≡ as_number (keystream m s n) → low ≡ as_number (keystream m (moved s n) count) → result ≡ as_number (keystream m s total) }

@@ -9,7 +9,7 @@ pub trait Generator {
     // The number of the kind. A generator that stands on another has the number of the one below.
     const KIND: u8;
 
-    // The same number, for contracts, which cannot name the constant in generic code.
+    // The same number, for contracts; `kind_number` ties the constant to it.
     ghost kind: { ℕ };
 
     // The four things that never change.

@@ -4,8 +4,8 @@
 --   Unhexadecimal text      the text of no byte string
 --   Decimal text n          a numeral, after a plus or not, that writes n, below 2^64
 --   Undecimal text          no such numeral
---   ReadsLetter            what a letter's lines say
---   ReadsNone              the first line that says nothing
+--   ReadsLetter             what a letter's lines say
+--   ReadsNone               the first line that says nothing
 --   line_name               what that line is called
 use Rattle.std.specs.Prelude.{◌≡◌, ℕ, ◌^◌, ◌<◌, List, vec_items, codes, ◌≢◌}
 use Rattle.std.specs.Str.Parse.{IsNumeral, digits_value, without_leading_plus}
