@@ -1,9 +1,9 @@
 -- The refusals: the number and the layer of each, and for each call those that it tries, in their order, with their conditions.
 --
---   ..-number, ..-layer    the number and the layer of a refusal
+--   .._number, .._layer   the number and the layer of a refusal
 --   layer_name            how a layer is printed
 --   refusal_text          how a refusal is printed
---   ..-refusals            what a call tries: each condition with its refusal
+--   .._refusals           what a call tries: each condition with its refusal
 --   answered refusals x   the first refusal whose condition holds, or the answer x
 use Rattle.std.specs.Prelude.{ℕ, ◌+◌, ◌*◌, ◌/◌, ◌^◌, Bool, cond, not, ◌||◌, List, [], ◌∷◌, ◌++◌, length, Ok, Err, codes, decimal, Result, ◌==◌, nat_lt}
 use Rattle.keystream.specs.declared.fault.Layer.{Layer}

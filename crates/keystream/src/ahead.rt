@@ -34,7 +34,7 @@ impl<G: Generator> ReadAhead<G> {
     // The next n bits, out of the buffer.
     fn held(&mut self, n: u32) -> u64
         requires sound { ahead_sound G.Generator.meaning G.Generator.meant G.Generator.sound self.old }
-        requires some { 0 < n }
+        requires nonzero { 0 < n }
         requires held { n ≤ self.old.buffer.count }
         ensures answer { result ≡ as_number (keystream (ahead_meaning G.Generator.meaning self.old) (ahead_meant G.Generator.meant self.old) n) }
         ensures after { ahead_meant G.Generator.meant self.new ≡ moved (ahead_meant G.Generator.meant self.old) n }
@@ -47,7 +47,7 @@ impl<G: Generator> ReadAhead<G> {
     // Hands out all bits held, and fills the buffer from below.
     fn refill(&mut self) -> Result<u64, GeneratorFault>
         requires sound { ahead_sound G.Generator.meaning G.Generator.meant G.Generator.sound self.old }
-        requires more { 0 < left (G.Generator.meaning self.old.below) (G.Generator.meant self.old.below) }
+        requires some_left { 0 < left (G.Generator.meaning self.old.below) (G.Generator.meant self.old.below) }
         ensures answer { result ≡ Ok (as_number (keystream (ahead_meaning G.Generator.meaning self.old) (ahead_meant G.Generator.meant self.old) self.old.buffer.count)) }
         ensures after { ahead_meant G.Generator.meant self.new ≡ moved (ahead_meant G.Generator.meant self.old) self.old.buffer.count }
         ensures same { ahead_meaning G.Generator.meaning self.new ≡ ahead_meaning G.Generator.meaning self.old }

@@ -19,7 +19,7 @@ impl Buffer {
 
     // Takes the first n bits out.
     pub(crate) fn next(&mut self, n: u32) -> u64
-        requires some { 0 < n }
+        requires nonzero { 0 < n }
         requires held { n ≤ self.old.count }
         requires most { self.old.count ≤ 64 }
         ensures answer { result ≡ self.old.word / 2 ^ (self.old.count - n) }

@@ -13,7 +13,7 @@ const DRAW: usize = 64;
 // XORs the `count` bits of a word, the first most significant, into the buffer from a bit of a byte on.
 fn lay(buffer: &mut [u8], byte: usize, bit: usize, word: u64, count: u32)
     requires bit { bit < 8 }
-    requires some { 0 < count }
+    requires nonzero { 0 < count }
     requires most { count ≤ 64 }
     requires word { word < 2 ^ count }
     requires within { 8 * byte + bit + count ≤ 8 * length buffer.old }
