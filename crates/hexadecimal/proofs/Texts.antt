@@ -1,65 +1,38 @@
--- Hexadecimal texts: one byte more, and where the digits of a byte stand.
-use Rattle.std.proofs.Common.{◌≡◌, ℕ, zero, suc, ◌+◌, ◌*◌, ◌/◌, ◌%◌, ◌<◌, List, [], ◌∷◌, ◌++◌, length, get_or, take, sym, refl, ap, ◌∙◌, arith}
-use Rattle.std.proofs.lemmas.List.{append_assoc, take_more}
-use Rattle.std.proofs.lemmas.Bool.Decides.{nat_tests}
-use Rattle.hexadecimal.specs.Digits.{hex_digit, hex_text, ByteString}
+-- Hexadecimal texts: one byte more, and their pairs of digits.
+use Rattle.std.proofs.Common.{◌≡◌, ℕ, ◌*◌, ◌/◌, ◌%◌, ◌<◌, List, [], ◌∷◌, ◌++◌, length, get_or, drop, map, sym, refl, ap, arith}
+use Rattle.std.specs.Simd.{first_chunks}
+use Rattle.std.proofs.lemmas.List.{get_or-map, length-drop, length-map, take-append-drop, nil_from_length}
+use Rattle.hexadecimal.specs.Digits.{hex_digit, hex_text}
 
-pub hex_push : (bytes : List ℕ) (b : ℕ) → hex_text (bytes ++ b ∷ []) ≡ hex_text bytes ++ (hex_digit (b / 16) ∷ hex_digit (b % 16) ∷ [])
-hex_push [] b = refl
-hex_push (x ∷ bytes) b = ap (λ t. hex_digit (x / 16) ∷ hex_digit (x % 16) ∷ t) (hex_push bytes b)
+-- the two digits of a byte
+abbrev pub byte_digits : ℕ → List ℕ
+byte_digits byte = hex_digit (byte / 16) ∷ hex_digit (byte % 16) ∷ []
 
-pub hex_length : (bytes : List ℕ) → length (hex_text bytes) ≡ 2 * length bytes
-hex_length [] = refl
-hex_length (x ∷ bytes) = omega (arith, hex_length bytes)
+pub hex_text_push : (bytes : List ℕ) (b : ℕ) → hex_text (bytes ++ b ∷ []) ≡ hex_text bytes ++ byte_digits b
+hex_text_push [] b = refl
+hex_text_push (x ∷ bytes) b = ap (λ text. byte_digits x ++ text) (hex_text_push bytes b)
 
-pub hex_high : (bytes : List ℕ) (i : ℕ) → i < length bytes → get_or (hex_text bytes) (2 * i) 0 ≡ hex_digit (get_or bytes i 0 / 16)
-hex_high [] i h = absurd (omega arith)
-hex_high (x ∷ bytes) zero h = refl
-hex_high (x ∷ bytes) (suc i) h =
-    let e : 2 * suc i ≡ suc (suc (2 * i)) = omega arith in
-    ap (λ (k : ℕ). get_or (hex_text (x ∷ bytes)) k 0) e ∙ hex_high bytes i (omega arith)
+pub length-hex_text : (bytes : List ℕ) → length (hex_text bytes) ≡ 2 * length bytes
+length-hex_text [] = refl
+length-hex_text (x ∷ bytes) = omega (arith, length-hex_text bytes)
 
-pub hex_low : (bytes : List ℕ) (i : ℕ) → i < length bytes → get_or (hex_text bytes) (2 * i + 1) 0 ≡ hex_digit (get_or bytes i 0 % 16)
-hex_low [] i h = absurd (omega arith)
-hex_low (x ∷ bytes) zero h = refl
-hex_low (x ∷ bytes) (suc i) h =
-    let e : 2 * suc i + 1 ≡ suc (suc (2 * i + 1)) = omega arith in
-    ap (λ (k : ℕ). get_or (hex_text (x ∷ bytes)) k 0) e ∙ hex_low bytes i (omega arith)
+pairs_of_hex_text : (bytes : List ℕ) → first_chunks 2 (length bytes) (hex_text bytes) ≡ map byte_digits bytes
+pairs_of_hex_text [] = refl
+pairs_of_hex_text (x ∷ bytes) = ap (λ pairs. byte_digits x ∷ pairs) (pairs_of_hex_text bytes)
 
-pub hex_digit_ascii : (d : ℕ) → d < 16 → hex_digit d < 128
-hex_digit_ascii d h = grind (arith, nat_tests)
+-- in the text of a byte string each pair is the digits of a byte
+pub pair_at
+    : (bytes : List ℕ) {text : List ℕ} {pairs : List (List ℕ)}
+    → hex_text bytes ≡ text → pairs ≡ first_chunks 2 (length text / 2) text
+    → (i : ℕ) → i < length pairs → get_or pairs i [] ≡ byte_digits (get_or bytes i 0)
+pair_at bytes {text} {pairs} spells pairs_of_text i in_range =
+    let spelled : pairs ≡ map byte_digits bytes = grind (arith, length-hex_text, pairs_of_hex_text bytes) in
+    grind (arith, get_or-map byte_digits bytes i 0 [], length-map bytes byte_digits)
 
-pub bytes_push : (bytes : List ℕ) (b : ℕ) → ByteString bytes → b < 256 → ByteString (bytes ++ b ∷ [])
-bytes_push [] b all h zero = h
-bytes_push [] b all h (suc i) = omega arith
-bytes_push (x ∷ bytes) b all h zero = all 0
-bytes_push (x ∷ bytes) b all h (suc i) = bytes_push bytes b (λ j. all (suc j)) h i
-
--- two characters more
-pub take_pair
-    : (text : List ℕ) (i : ℕ) → 2 * i + 1 < length text
-    → take (2 * (i + 1)) text ≡ take (2 * i) text ++ (get_or text (2 * i) 0 ∷ get_or text (2 * i + 1) 0 ∷ [])
-take_pair text i h =
-    let e : 2 * (i + 1) ≡ 2 * i + 1 + 1 = omega arith in
-    ap (λ (k : ℕ). take k text) e
-    ∙ take_more text (2 * i + 1) 0 h
-    ∙ ap (λ t. t ++ (get_or text (2 * i + 1) 0 ∷ [])) (take_more text (2 * i) 0 (omega arith))
-    ∙ append_assoc (take (2 * i) text) (get_or text (2 * i) 0 ∷ []) (get_or text (2 * i + 1) 0 ∷ [])
-
--- a text with a character that is no digit is the text of no byte string
-module _ (text bytes : List ℕ) (byte_string : ByteString bytes) (spells : hex_text bytes ≡ text) where
-  long : length text ≡ 2 * length bytes
-  long = ap length (sym spells) ∙ hex_length bytes
-
-  pub even_length : length text % 2 ≡ 0
-  even_length = omega (arith, long)
-
-  pub high_digit : (i : ℕ) → i < length text / 2 → ((d : ℕ) → d < 16 → hex_digit d ≡ get_or text (2 * i) 0 → ⊥) → ⊥
-  high_digit i h none =
-      none (get_or bytes i 0 / 16) (omega (arith, byte_string i))
-      (sym (hex_high bytes i (omega (arith, long))) ∙ ap (λ t. get_or t (2 * i) 0) spells)
-
-  pub low_digit : (i : ℕ) → i < length text / 2 → ((d : ℕ) → d < 16 → hex_digit d ≡ get_or text (2 * i + 1) 0 → ⊥) → ⊥
-  low_digit i h none =
-      none (get_or bytes i 0 % 16) (omega arith)
-      (sym (hex_low bytes i (omega (arith, long))) ∙ ap (λ t. get_or t (2 * i + 1) 0) spells)
+-- a text whose pairs are the digits of the bytes is their text
+pub hex_text_from_pairs
+    : (bytes text : List ℕ) → length text ≡ 2 * length bytes
+    → first_chunks 2 (length bytes) text ≡ map byte_digits bytes → hex_text bytes ≡ text
+hex_text_from_pairs [] text two_each spelled = sym (nil_from_length text two_each)
+hex_text_from_pairs (x ∷ bytes) text two_each spelled =
+    grind (arith, hex_text_from_pairs bytes (drop 2 text), length-drop 2 text, take-append-drop 2 text)

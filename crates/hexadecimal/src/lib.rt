@@ -11,17 +11,14 @@ fn digit(value: u8) -> char
     requires { value < 16 }
     ensures { result ≡ hex_digit value }
 {
-    if value < 10 {
-        char::from(b'0' + value)
-    } else {
-        char::from(b'a' + (value - 10))
-    }
+    char::from_digit(u32::from(value), 16).unwrap()
 }
 
 // The digit that a character stands for, if it stands for one.
 fn value(digit: char) -> Option<u8>
     ensures { MatchOption result ((d : ℕ) → d < 16 → hex_digit d ≢ digit) (λ d. (d < 16) × (hex_digit d ≡ digit)) }
 {
+    // std's `to_digit` reads upper-case digits too.
     match digit {
         '0'..='9' => Some((digit as u32 - '0' as u32) as u8),
         'a'..='f' => Some((digit as u32 - 'a' as u32) as u8 + 10),
@@ -47,15 +44,16 @@ pub fn read(heap: Global, text: &[u8]) -> Result<Option<Vec<u8>>, AllocError>
         ((bytes : List ℕ) → ByteString bytes → hex_text bytes ≢ text.now)
         (λ bytes. ByteString bytes.items × (hex_text bytes.items ≡ text.now))) }
 {
-    if text.len() % 2 == 1 {
+    let (pairs, rest) = text.as_chunks::<2>();
+    if !rest.is_empty() {
         return Ok(None);
     }
     let mut bytes = Vec::new(heap);
-    for i in 0..text.len() / 2 {
-        let Some(high) = value(char::from(text[2 * i])) else {
+    for [high, low] in pairs {
+        let Some(high) = value(char::from(*high)) else {
             return Ok(None);
         };
-        let Some(low) = value(char::from(text[2 * i + 1])) else {
+        let Some(low) = value(char::from(*low)) else {
             return Ok(None);
         };
         bytes.push(16 * high + low)?;
@@ -74,11 +72,9 @@ mod tests {
         assert_eq!(rt; text(heap, &[0x00, 0x9a, 0xf0])?.as_str(), "009af0");
         let bytes = read(heap, b"009af0")?.ok_or("unreadable")?;
         assert_eq!(rt; bytes.as_slice(), [0x00, 0x9a, 0xf0].as_slice());
-        assert!(rt; read(heap, b"0")?.is_none());
-        assert!(rt; read(heap, b"0A")?.is_none());
-        assert!(rt; read(heap, b"g0")?.is_none());
-        assert!(rt; read(heap, b"0`")?.is_none());
-        assert!(rt; read(heap, b":0")?.is_none());
+        for unreadable in ["0", "0A", "g0", "0`", ":0"] {
+            assert!(rt; read(heap, unreadable.as_bytes())?.is_none());
+        }
         Ok(())
     }
 }
