@@ -16,7 +16,9 @@ fn digit(value: u8) -> char
 
 // The digit that a character stands for, if it stands for one.
 fn value(digit: char) -> Option<u8>
-    ensures { MatchOption result ((d : ℕ) → d < 16 → hex_digit d ≢ digit) (λ d. (d < 16) × (hex_digit d ≡ digit)) }
+    ensures { MatchOption result
+        ((d : ℕ) → d < 16 → hex_digit d ≢ digit)
+        (λ d. (d < 16) × (hex_digit d ≡ digit)) }
 {
     // std's `to_digit` reads upper-case digits too.
     match digit {

@@ -1,47 +1,37 @@
 -- One more draw applied to a span, and the span applied twice.
-use Rattle.std.proofs.Common.{◌≡◌, ℕ, ◌+◌, ◌*◌, ◌<◌, ◌≤◌, List, length, Ok, Err, Result, sym, ap, ◌∙◌, arith}
+use Rattle.std.proofs.Common.{◌≡◌, ℕ, ◌+◌, ◌*◌, ◌^◌, ◌<◌, ◌≤◌, List, length, Ok, arith}
 use Rattle.std.proofs.lemmas.Bool.Decides.{nat_tests}
-use Rattle.keystream.specs.declared.fault.SpanFault.{SpanFault}
-use Rattle.keystream.specs.Bits.{as_number, bits_of}
+use Rattle.keystream.specs.Bits.{◌⊕◌, bit_at, as_number, bits_of}
 use Rattle.keystream.specs.Meaning.{Meaning, Meant, left, keystream, moved}
-use Rattle.keystream.specs.Calls.{take_answer, take_after}
-use Rattle.keystream.specs.Refusals.{answered, span_refusals}
-use Rattle.keystream.specs.Span.{sealed, apply_answer, apply_buffer, apply_after}
-use Rattle.keystream.proofs.Accepts.{take_accepts, take_moves}
-use Rattle.keystream.proofs.Streams.{moved-moved, left-moved, keystream_append, keystream_length, bits_of_keystream}
-use Rattle.keystream.proofs.Sealing.{sealed_length, sealed-append, sealed_twice}
+use Rattle.keystream.specs.Calls.{take_answer}
+use Rattle.keystream.specs.Span.{laid, sealed, apply_answer, apply_buffer}
+use Rattle.keystream.proofs.Streams.{keystream_append, keystream_length, keystream_below, bits_of_keystream}
+use Rattle.keystream.proofs.Sealing.{sealed_length, sealed-append, sealed_twice, sealed_bit}
 
--- a draw of k bits after the first `done` of a span
-module _ (m m' : Meaning) (s s' : Meant) (done k : ℕ) (same : m' ≡ m) (at : s' ≡ moved s done) (low : 0 < k) (high : k ≤ 64) (within : done + k ≤ left m s) where
-  enough : k ≤ left m (moved s done)
-  enough = omega (arith, left-moved m s done)
+-- a take of k bits that is accepted
+module _ (m : Meaning) (s : Meant) (k word : ℕ) (took : Ok word ≡ take_answer m s k) where
+  taken_within : k ≤ left m s
+  taken_within = grind (arith, nat_tests)
 
-  -- it is accepted
-  pub drawn : take_answer m' s' k ≡ Ok (as_number (keystream m (moved s done) k))
-  drawn = ap (λ (x : Meaning). take_answer x s' k) same ∙ ap (λ (t : Meant). take_answer m t k) at ∙ take_accepts m (moved s done) k low high enough
+  taken : word ≡ as_number (keystream m s k)
+  taken = grind (arith, nat_tests)
 
-  pub drawn_word : (word : ℕ) → Ok word ≡ take_answer m' s' k → word ≡ as_number (keystream m (moved s done) k)
-  drawn_word word e = let f = drawn in cc
+  pub taken_below : word < 2 ^ k
+  taken_below = rw taken (keystream_below m s k)
 
-  pub drawn_moves : take_after m' s' k ≡ moved s (done + k)
-  drawn_moves =
-      ap (λ (x : Meaning). take_after x s' k) same ∙ ap (λ (t : Meant). take_after m t k) at
-      ∙ take_moves m (moved s done) k low high enough
-      ∙ moved-moved s done k
+  taken_bits : bits_of k word ≡ keystream m s k
+  taken_bits = rw taken (bits_of_keystream m s k taken_within)
 
-  -- laid where the first `done` bits end, it makes done + k bits laid
-  pub drawn_laid
-      : (buffer : List ℕ) (first word : ℕ) → Ok word ≡ take_answer m' s' k
-      → sealed (sealed buffer first (keystream m s done)) (first + done) (bits_of k word) ≡ sealed buffer first (keystream m s (done + k))
-  drawn_laid buffer first word e =
-      let front = keystream m s done in
-      let back = keystream m (moved s done) k in
-      let bits : bits_of k word ≡ back = ap (bits_of k) (drawn_word word e) ∙ bits_of_keystream m (moved s done) k enough in
-      let long : done ≡ length front = sym (keystream_length m s done (omega arith)) in
-      ap (sealed (sealed buffer first front) (first + done)) bits
-      ∙ ap (λ (d : ℕ). sealed (sealed buffer first front) (first + d) back) long
-      ∙ sealed-append buffer first front back
-      ∙ ap (sealed buffer first) (sym (keystream_append m s done k))
+-- the bits of such a take, laid after the first `done` of a span
+pub taken_laid
+    : (m m' : Meaning) (s s' : Meant) (buffer now : List ℕ) (first done k next place word : ℕ)
+    → m' ≡ m → s' ≡ moved s done → now ≡ sealed buffer first (keystream m s done) → Ok word ≡ take_answer m' s' k
+    → done ≤ left m s → done + k ≡ next → place ≡ first + done
+    → sealed now place (bits_of k word) ≡ sealed buffer first (keystream m s next)
+taken_laid m m' s s' buffer now first done k next place word same at so_far took within sum there =
+    let drawn : Ok word ≡ take_answer m (moved s done) k = rw (same, at) at took in
+    let from : place ≡ first + length (keystream m s done) = omega (arith, keystream_length m s done within) in
+    rw (so_far, taken_bits m (moved s done) k word drawn, from, ← sum, keystream_append m s done k) (sealed-append buffer first _ _)
 
 -- an accepted span
 module _ (m : Meaning) (s : Meant) (buffer : List ℕ) (first n : ℕ) where
@@ -49,17 +39,15 @@ module _ (m : Meaning) (s : Meant) (buffer : List ℕ) (first n : ℕ) where
   apply_accepts inside within = grind (arith, nat_tests)
 
   pub apply_seals : apply_answer m s buffer first n ≡ Ok tt → apply_buffer m s buffer first n ≡ sealed buffer first (keystream m s n)
-  apply_seals e = ap (λ (r : Result (Unit {0}) SpanFault). elim r [ Ok x ↦ sealed buffer first (keystream m s n) | Err f ↦ buffer ]) e
+  apply_seals e = rw (e, apply_buffer)
 
-  pub apply_moves : apply_answer m s buffer first n ≡ Ok tt → apply_after m s buffer first n ≡ moved s n
-  apply_moves e = ap (λ (r : Result (Unit {0}) SpanFault). elim r [ Ok x ↦ moved s n | Err f ↦ s ]) e
+-- a span whose n bits are laid
+module _ (m : Meaning) (s : Meant) (buffer after : List ℕ) (first n : ℕ) (whole : after ≡ sealed buffer first (keystream m s n)) where
+  pub whole_bits : (i : ℕ) → i < 8 * length buffer → bit_at after i ≡ bit_at buffer i ⊕ laid first (keystream m s n) i
+  whole_bits i h = rw whole (sealed_bit buffer first (keystream m s n) i h)
 
--- sealed once more from the same place, a buffer is back
-pub apply_twice
-    : (m : Meaning) (s : Meant) (buffer : List ℕ) (first n : ℕ) → apply_answer m s buffer first n ≡ Ok tt
-    → apply_buffer m s (sealed buffer first (keystream m s n)) first n ≡ buffer
-apply_twice m s buffer first n e =
-    let once = sealed buffer first (keystream m s n) in
-    let again : apply_answer m s once first n ≡ Ok tt
-    = ap (λ (size : ℕ). answered (span_refusals m s size first n) tt) (sealed_length buffer first (keystream m s n)) ∙ e in
-    apply_seals m s once first n again ∙ sealed_twice buffer first (keystream m s n)
+  -- applied once more from the same place, the buffer is back
+  pub whole_twice : apply_answer m s buffer first n ≡ Ok tt → apply_buffer m s after first n ≡ buffer
+  whole_twice e =
+      let again : apply_answer m s after first n ≡ Ok tt = rw (whole, sealed_length buffer first (keystream m s n)) e in
+      rw (apply_seals m s after first n again, whole) (sealed_twice buffer first (keystream m s n))

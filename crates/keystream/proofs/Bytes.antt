@@ -1,7 +1,9 @@
 -- Bytes and their bits.
-use Rattle.std.specs.Prelude.{◌≡◌, ℕ, zero, suc, ◌+◌, ◌-◌, ◌/◌, ◌%◌, ◌^◌, ◌<◌, ◌≤◌, Bool, false, List, [], ◌∷◌, ◌==◌, bit_xor, nat_eq, slice_index, refl}
-use Rattle.std.proofs.Common.{sym, ap, ◌∙◌, subst, zero-add, mod-eq_of_lt, arith}
-use Rattle.std.proofs.lemmas.Nat.{shr_below, mod_below, xor_shr, xor_mod}
+use Rattle.std.specs.Prelude.{◌≡◌, ℕ, ◌+◌, ◌-◌, ◌/◌, ◌%◌, ◌^◌, ◌<◌, ◌≤◌, Bool, false, List, [], ◌∷◌, ◌==◌, bit_xor, nat_eq, slice_index, refl}
+use Rattle.std.proofs.Common.{sym, ap, ◌∙◌, zero-add, mod-eq_of_lt, arith}
+use Rattle.std.proofs.lemmas.Nat.{shr_below}
+use Rattle.std.proofs.lemmas.Nat.Bits.{bit_at_xor, bit_at-lt}
+use Rattle.std.proofs.lemmas.Bool.Decides.{nat_tests}
 use Rattle.keystream.specs.Bits.{◌⊕◌, bit_at, first_bits, byte_of, as_number}
 use Rattle.keystream.proofs.Numbers.{leading_bits, run_same, xor_runs, bit_of_run}
 
@@ -27,21 +29,12 @@ pub byte_of_zeros : byte_of (λ k. false) ≡ 0
 unfolding byte_of
 byte_of_zeros = refl
 
-xor_of_bits : (x y : ℕ) → x < 2 → y < 2 → (bit_xor x y == 1) ≡ nat_eq x 1 ⊕ nat_eq y 1
-xor_of_bits zero zero g h = refl
-xor_of_bits zero (suc zero) g h = refl
-xor_of_bits zero (suc (suc y)) g h = absurd (omega arith)
-xor_of_bits (suc zero) zero g h = refl
-xor_of_bits (suc zero) (suc zero) g h = refl
-xor_of_bits (suc zero) (suc (suc y)) g h = absurd (omega arith)
-xor_of_bits (suc (suc x)) y g h = absurd (omega arith)
+sum_of_bits : (x y : ℕ) → x < 2 → y < 2 → ((x + y) % 2 == 1) ≡ nat_eq x 1 ⊕ nat_eq y 1
+sum_of_bits x y g h = grind (arith, nat_tests)
 
 -- a bit of an XOR
 pub xor_bit : (a b d : ℕ) → (bit_xor a b / 2 ^ d % 2 == 1) ≡ nat_eq (a / 2 ^ d % 2) 1 ⊕ nat_eq (b / 2 ^ d % 2) 1
-xor_bit a b d =
-    ap (λ (x : ℕ). nat_eq (x % 2) 1) (xor_shr a b d)
-    ∙ ap (λ (x : ℕ). nat_eq x 1) (xor_mod (a / 2 ^ d) (b / 2 ^ d) 1)
-    ∙ xor_of_bits (a / 2 ^ d % 2) (b / 2 ^ d % 2) (mod_below (a / 2 ^ d) 2 (omega arith)) (mod_below (b / 2 ^ d) 2 (omega arith))
+xor_bit a b d = ap (λ (x : ℕ). nat_eq x 1) (bit_at_xor a b d) ∙ sum_of_bits (a / 2 ^ d % 2) (b / 2 ^ d % 2) (bit_at-lt a d) (bit_at-lt b d)
 
 -- up to eight bits are read off the first byte alone
 pub first_bits_of_byte : (n : ℕ) (bytes : List ℕ) → n ≤ 8 → first_bits n bytes ≡ first_bits n (slice_index bytes 0 ∷ [])
@@ -53,6 +46,6 @@ unfolding first_bits
 number_of_first_bits v n h l =
     let f : ℕ → Bool = λ k. nat_eq (v / 2 ^ (8 - 1 - k) % 2) 1 in
     let whole : n + (8 - n) ≡ 8 = omega arith in
-    let below : v / 2 ^ (8 - n) < 2 ^ n = shr_below v n (8 - n) (subst (λ (j : ℕ). v < 2 ^ j) (sym whole) h) in
+    let below : v / 2 ^ (8 - n) < 2 ^ n = shr_below v n (8 - n) (rw whole h) in
     ap as_number (run_same (bit_at (v ∷ [])) f 0 0 n (λ k g. let q : (0 + k) / 8 ≡ 0 = omega arith in let r : (0 + k) % 8 ≡ 0 + k = omega arith in rw (q, r)))
     ∙ leading_bits v 8 n l ∙ mod-eq_of_lt below

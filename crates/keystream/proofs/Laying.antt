@@ -1,17 +1,17 @@
 -- A word of keystream moved to where its span begins, as the bits that lie over each byte.
-use Rattle.std.proofs.Common.{◌≡◌, ℕ, ◌+◌, ◌-◌, ◌*◌, ◌/◌, ◌%◌, ◌^◌, ◌<◌, ◌≤◌, min, Bool, false, eqb, List, length, get_or, sym, ap, ◌∙◌, subst, inl, inr, mul_assoc, zero-add, arith, pow_mono, pow-add}
-use native.Mathlib.Nat.{div-eq_of_lt, mul-mod_left}
-use lib.Bits.{bit_xor}
-use Rattle.std.proofs.lemmas.Nat.{shl-shr, shr-shr, shl_below}
+use Rattle.std.proofs.Common.{◌≡◌, ℕ, ◌+◌, ◌-◌, ◌*◌, ◌/◌, ◌%◌, ◌^◌, ◌<◌, ◌≤◌, min, Bool, false, eqb, List, [], ◌∷◌, ◌++◌, map, length, get_or, take, drop, bit_xor, sym, ◌∙◌, inl, inr, zero-add, add-zero, rules, arith}
+use Rattle.std.specs.List.{range_with_len}
+use Rattle.std.proofs.lemmas.Nat.{pow_pos, shr-shr}
+use Rattle.std.proofs.lemmas.Nat.Bits.{bit_at-zero, bit_at_above, bit_at_cat_low, bit_at_cat_high}
 use Rattle.std.proofs.lemmas.List.FromFn.{length-map-range_with_len, get_or-map-range_with_len}
-use Rattle.std.proofs.lemmas.List.{ext_get_or}
+use Rattle.std.proofs.lemmas.List.{ext_get_or, get_or_append_left, places}
 use Rattle.std.proofs.lemmas.Bool.{cases_lt}
 use Rattle.keystream.specs.Bits.{byte_of, bits_of}
 use Rattle.keystream.specs.Span.{laid, sealed}
 use Rattle.keystream.proofs.Bytes.{low_byte, byte_of_same}
 use Rattle.keystream.proofs.Sealing.{laid_before, laid_at, laid_past, sealed_length, sealed_at, sealed_clear}
 
-pub bits_of_length : (n x : ℕ) → length (bits_of n x) ≡ n
+bits_of_length : (n x : ℕ) → length (bits_of n x) ≡ n
 unfolding bits_of
 bits_of_length n x = length-map-range_with_len _ 0 n
 
@@ -19,117 +19,92 @@ bits_of_at : (n x k : ℕ) → k < n → get_or (bits_of n x) k false ≡ eqb (x
 unfolding bits_of
 bits_of_at n x k h = get_or-map-range_with_len _ 0 n k k false h (zero-add k)
 
--- a number moved up by s, then down by d
-up_down : (x s d t : ℕ) → s + t ≡ d → x * 2 ^ s / 2 ^ d ≡ x / 2 ^ t
-up_down x s d t e =
-    ap (λ (j : ℕ). x * 2 ^ s / 2 ^ j) (sym e) ∙ sym (shr-shr (x * 2 ^ s) s t) ∙ ap (λ (y : ℕ). y / 2 ^ t) (shl-shr x s)
+-- bit d of a number moved up by s
+moved_bit : (x s d : ℕ) → s ≤ d → x * 2 ^ s / 2 ^ d % 2 ≡ x / 2 ^ (d - s) % 2
+moved_bit x s d h = rw (← add-zero (x * 2 ^ s)) (bit_at_cat_high x s 0 d (pow_pos s) h)
 
-down_up : (x s d t : ℕ) → d + t ≡ s → x * 2 ^ s / 2 ^ d ≡ x * 2 ^ t
-down_up x s d t e =
-    let f : t + d ≡ s = omega arith in
-    ap (λ (j : ℕ). x * 2 ^ j / 2 ^ d) (sym f) ∙ ap (λ (y : ℕ). x * y / 2 ^ d) (pow-add 2 t d)
-    ∙ ap (λ (y : ℕ). y / 2 ^ d) (sym (mul_assoc x (2 ^ t) (2 ^ d))) ∙ shl-shr (x * 2 ^ t) d
+no_bit : (x s d : ℕ) → d < s → x * 2 ^ s / 2 ^ d % 2 ≡ 0
+no_bit x s d h = rw (← add-zero (x * 2 ^ s)) (bit_at_cat_low x s 0 d h ∙ bit_at-zero d)
 
-even : (x t : ℕ) → 0 < t → x * 2 ^ t % 2 ≡ 0
-even x t h =
-    let e : t ≡ t - 1 + 1 = omega arith in
-    ap (λ (j : ℕ). x * 2 ^ j % 2) e ∙ ap (λ (y : ℕ). x * y % 2) (pow-add 2 (t - 1) 1)
-    ∙ ap (λ (y : ℕ). y % 2) (sym (mul_assoc x (2 ^ (t - 1)) 2)) ∙ mul-mod_left (x * 2 ^ (t - 1)) 2
+-- the bytes of a number of 128 bits
+abbrev pub bytes_of : ℕ → List ℕ
+bytes_of x = map (λ b. x / 2 ^ (120 - 8 * b) % 256) (range_with_len 0 15) ++ (x % 256 ∷ [])
 
--- bit p of 128 bits that hold a word of `count` bits from bit r on
-mask_bit
-    : (word count r p : ℕ) → word < 2 ^ count → r + count ≤ 128 → p < 128
-    → eqb (word * 2 ^ (128 - r - count) / 2 ^ (127 - p) % 2) 1 ≡ laid r (bits_of count word) p
-mask_bit word count r p w l h =
-    let s = 128 - r - count in
-    let d = 127 - p in
-    let long = bits_of_length count word in
-    elim (cases_lt p r) [
-      | inl g ↦
-          let top : count + s ≤ d = omega arith in
-          let high : 2 ^ (count + s) ≤ 2 ^ d = pow_mono top in
-          let none : word * 2 ^ s / 2 ^ d ≡ 0 = div-eq_of_lt (omega (arith, shl_below word count s w, high)) in
-          ap (λ (x : ℕ). eqb (x % 2) 1) none ∙ sym (laid_before r (bits_of count word) p g)
-      | inr g ↦
-          elim (cases_lt p (r + count)) [
-            | inl o ↦
-                let t = count - 1 - (p - r) in
-                ap (λ (x : ℕ). eqb (x % 2) 1) (up_down word s d t (omega arith))
-                ∙ sym (laid_at r (bits_of count word) p g ∙ bits_of_at count word (p - r) (omega arith))
-            | inr o ↦
-                let t = s - d in
-                ap (λ (x : ℕ). eqb (x % 2) 1) (down_up word s d t (omega arith))
-                ∙ ap (λ (x : ℕ). eqb x 1) (even word t (omega arith))
-                ∙ sym (laid_past r (bits_of count word) p (omega arith))
-          ]
-    ]
+bytes_at : (x b : ℕ) → b < 15 → get_or (bytes_of x) b 0 ≡ x / 2 ^ (120 - 8 * b) % 256
+bytes_at x b h =
+    let f : ℕ → ℕ = λ b. x / 2 ^ (120 - 8 * b) % 256 in
+    get_or_append_left (map f (range_with_len 0 15)) (x % 256 ∷ []) 0 b (omega (arith, length-map-range_with_len f 0 15))
+    ∙ get_or-map-range_with_len f 0 15 b b 0 h (zero-add b)
 
--- byte b of those 128 bits
-pub mask_byte
-    : (word count r b : ℕ) → word < 2 ^ count → r + count ≤ 128 → b < 16
-    → word * 2 ^ (128 - r - count) / 2 ^ (120 - 8 * b) % 256 ≡ byte_of (λ k. laid r (bits_of count word) (8 * b + k))
-mask_byte word count r b w l h =
-    let x = word * 2 ^ (128 - r - count) in
-    sym
-    (byte_of_same _ _
-    (λ k o.
-    let e : 127 - (8 * b + k) ≡ 120 - 8 * b + (7 - k) = omega arith in
-    sym (mask_bit word count r (8 * b + k) w l (omega arith))
-    ∙ ap (λ (d : ℕ). eqb (x / 2 ^ d % 2) 1) e
-    ∙ ap (λ (y : ℕ). eqb (y % 2) 1) (sym (shr-shr x (120 - 8 * b) (7 - k))))
-    ∙ low_byte (x / 2 ^ (120 - 8 * b)))
+-- 128 bits that hold a word of `count` bits from bit r on
+abbrev pub held : ℕ → ℕ → ℕ → ℕ
+held word count r = word * 2 ^ (128 - r - count)
 
--- counted from the byte that the span begins in
-laid_from : (bits : List Bool) (start r j k : ℕ) → start ≤ j → laid (8 * start + r) bits (8 * j + k) ≡ laid r bits (8 * (j - start) + k)
-laid_from bits start r j k h =
-    let i = 8 * j + k in
-    let p = 8 * (j - start) + k in
-    elim (cases_lt i (8 * start + r)) [
-      | inl g ↦ laid_before (8 * start + r) bits i g ∙ sym (laid_before r bits p (omega arith))
-      | inr g ↦
-          let e : i - (8 * start + r) ≡ p - r = omega arith in
-          laid_at (8 * start + r) bits i g ∙ ap (λ (q : ℕ). get_or bits q false) e ∙ sym (laid_at r bits p (omega arith))
-    ]
+-- those bits laid from bit 8 * from of a buffer on
+module _ (word count r from : ℕ) (w : word < 2 ^ count) (l : r + count ≤ 128) where
+  abbrev mask : ℕ
+  mask = held word count r
 
-module _ (buffer after mask : List ℕ) (word count byte bit : ℕ) where
-  -- a byte that is XORed with its byte of the mask
-  laid_byte
-      : word < 2 ^ count → bit + count ≤ 128
-      → ((b : ℕ) → b < 15 → get_or mask b 0 ≡ word * 2 ^ (128 - bit - count) / 2 ^ (120 - 8 * b) % 256)
-      → (j : ℕ) → j < length buffer → byte ≤ j → j - byte < 15
-      → bit_xor (get_or buffer j 0) (get_or mask (j - byte) 0) ≡ get_or (sealed buffer (8 * byte + bit) (bits_of count word)) j 0
-  laid_byte w l masks j h from b =
-      let bits = bits_of count word in
-      ap (bit_xor (get_or buffer j 0))
-      (masks (j - byte) b
-      ∙ mask_byte word count bit (j - byte) w l (omega arith)
-      ∙ byte_of_same _ _ (λ k o. sym (laid_from bits byte bit j k from)))
-      ∙ sym (sealed_at buffer (8 * byte + bit) bits j h)
+  abbrev bits : List Bool
+  bits = bits_of count word
 
-  -- the mask laid over `few` bytes: all that the bits reach, or all that there are
-  pub laid_over
-      : (few : ℕ) → word < 2 ^ count → bit < 8 → count ≤ 64 → length after ≡ length buffer → few ≡ min (length buffer - byte) 9
-      → ((b : ℕ) → b < 15 → get_or mask b 0 ≡ word * 2 ^ (128 - bit - count) / 2 ^ (120 - 8 * b) % 256)
-      → ((k : ℕ) → k < few → get_or after (byte + k) 0 ≡ bit_xor (get_or buffer (byte + k) 0) (get_or mask k 0))
-      → ((k : ℕ) → k < byte → get_or after k 0 ≡ get_or buffer k 0)
-      → ((k : ℕ) → byte + few ≤ k → get_or after k 0 ≡ get_or buffer k 0)
-      → after ≡ sealed buffer (8 * byte + bit) (bits_of count word)
-  laid_over few w small short long reach masks inside before behind =
-      let bits = bits_of count word in
-      let first = 8 * byte + bit in
-      let spans = bits_of_length count word in
-      ext_get_or 0 after (sealed buffer first bits) (long ∙ sym (sealed_length buffer first bits))
-      (λ j l.
-      let h : j < length buffer = omega arith in
-      elim (cases_lt j byte) [
-        | inl g ↦ before j g ∙ sym (sealed_clear buffer first bits j h (λ k o. laid_before first bits (8 * j + k) (omega arith)))
+  -- the bit over bit i
+  held_bit : (i high low : ℕ) → 8 * from ≤ i → i + (high + low) ≡ 8 * from + 127 → eqb (mask / 2 ^ high / 2 ^ low % 2) 1 ≡ laid (8 * from + r) bits i
+  held_bit i high low start e =
+      let s = 128 - r - count in
+      let d = high + low in
+      let first = 8 * from + r in
+      let long = bits_of_length count word in
+      rw (shr-shr mask high low)
+      (elim (cases_lt i first) [
+        | inl g ↦ rw (moved_bit word s d (omega arith), bit_at_above word count (d - s) w (omega arith), laid_before first bits i g)
         | inr g ↦
-            elim (cases_lt j (byte + few)) [
+            elim (cases_lt i (first + count)) [
               | inl o ↦
-                  let at : byte + (j - byte) ≡ j = omega arith in
-                  subst (λ (i : ℕ). get_or after i 0 ≡ bit_xor (get_or buffer i 0) (get_or mask (j - byte) 0)) at (inside (j - byte) (omega arith))
-                  ∙ laid_byte w (omega arith) masks j h g (omega arith)
-              | inr o ↦
-                  behind j o ∙ sym (sealed_clear buffer first bits j h (λ k p. laid_past first bits (8 * j + k) (omega arith)))
+                  let at : d - s ≡ count - 1 - (i - first) = omega arith in
+                  rw (moved_bit word s d (omega arith), at, laid_at first bits i g, bits_of_at count word (i - first) (omega arith))
+              | inr o ↦ rw (no_bit word s d (omega arith), laid_past first bits i (omega arith))
             ]
       ])
+
+  -- the byte over byte j
+  held_byte : (j : ℕ) → from ≤ j → j - from < 15 → get_or (bytes_of mask) (j - from) 0 ≡ byte_of (λ k. laid (8 * from + r) bits (8 * j + k))
+  held_byte j start h =
+      let high = 120 - 8 * (j - from) in
+      bytes_at mask (j - from) h
+      ∙ sym (low_byte (mask / 2 ^ high))
+      ∙ byte_of_same _ _ (λ k o. held_bit (8 * j + k) high (7 - k) (omega arith) (omega arith))
+
+-- those bits laid over `few` bytes: all that the word reaches, or all that there are
+pub laid_over
+    : (buffer part : List ℕ) (word count from bit few : ℕ)
+    → word < 2 ^ count → bit < 8 → count ≤ 64 → from ≤ length buffer → few ≡ min (length buffer - from) 9
+    → length part ≡ length (take few (drop from buffer))
+    → ((k : ℕ) → k < length (take few (drop from buffer))
+    → get_or part k 0 ≡ bit_xor (get_or (take few (drop from buffer)) k 0) (get_or (bytes_of (held word count bit)) k 0))
+    → take from buffer ++ (part ++ drop few (drop from buffer)) ≡ sealed buffer (8 * from + bit) (bits_of count word)
+laid_over buffer part word count from bit few w small short within reach long each =
+    let bits = bits_of count word in
+    let first = 8 * from + bit in
+    let spans = bits_of_length count word in
+    let after = take from buffer ++ (part ++ drop few (drop from buffer)) in
+    let size : length (take few (drop from buffer)) ≡ few = search (rules, places) in
+    let same : length after ≡ length buffer = search (rules, places) in
+    ext_get_or 0 after (sealed buffer first bits) (same ∙ sym (sealed_length buffer first bits))
+    (λ j l.
+    let h : j < length buffer = omega arith in
+    elim (cases_lt j from) [
+      | inl g ↦
+          let is : get_or after j 0 ≡ get_or buffer j 0 = search (rules, places) in
+          rw (is, sealed_clear buffer first bits j h (λ k o. laid_before first bits (8 * j + k) (omega arith)))
+      | inr g ↦
+          elim (cases_lt j (from + few)) [
+            | inl o ↦
+                let xored = each (j - from) (omega arith) in
+                let is : get_or after j 0 ≡ bit_xor (get_or buffer j 0) (get_or (bytes_of (held word count bit)) (j - from) 0) = search (rules, places, xored) in
+                rw (is, sealed_at buffer first bits j h, held_byte word count bit from w (omega arith) j g (omega arith))
+            | inr o ↦
+                let is : get_or after j 0 ≡ get_or buffer j 0 = search (rules, places) in
+                rw (is, sealed_clear buffer first bits j h (λ k p. laid_past first bits (8 * j + k) (omega arith)))
+          ]
+    ])

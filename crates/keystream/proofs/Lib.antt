@@ -1,6 +1,5 @@
 mod Numbers
 mod Bytes
-pub mod Accepts
 pub mod Sealing
 mod Laying
 pub mod Streams

@@ -1,9 +1,10 @@
 -- Lists of bits as numbers: joined, made of a run of places, and read off a number.
-use Rattle.std.specs.Prelude.{◌≡◌, ℕ, zero, suc, ◌+◌, ◌-◌, ◌*◌, ◌/◌, ◌%◌, ◌^◌, ◌<◌, ◌≤◌, Bool, true, false, cond, List, [], ◌∷◌, ◌++◌, map, length, replicate, ◌==◌, bit_xor, nat_eq, refl}
+use Rattle.std.specs.Prelude.{◌≡◌, ℕ, zero, suc, ◌+◌, ◌-◌, ◌*◌, ◌/◌, ◌%◌, ◌^◌, ◌<◌, ◌≤◌, Bool, true, false, cond, List, [], ◌∷◌, ◌++◌, map, length, replicate, ◌==◌, bit_or, bit_xor, nat_eq, refl}
 use Rattle.std.proofs.Common.{sym, ap, ◌∙◌, subst, zero-add, add-zero, suc-add, add-mul, mul_assoc, arith, length-append, pow-add}
 use Rattle.std.proofs.Math.Nat.{two-pow-succ}
-use Rattle.std.specs.List.{range_with_len}
-use Rattle.std.proofs.lemmas.Nat.{shr-shr, shr_high, mod_low, mod-pow-add, xor_block}
+use Rattle.std.specs.List.{range_with_len, fold}
+use Rattle.std.specs.Int.{from_bool}
+use Rattle.std.proofs.lemmas.Nat.{shl_whole, or_shifted, shr-shr, shr_high, mod_low, mod-pow-add, xor_block}
 use Rattle.std.proofs.lemmas.Bool.Decides.{nat_tests}
 use Rattle.std.proofs.lemmas.List.FromFn.{map-range_with_len_more, length-map-range_with_len}
 use Rattle.keystream.specs.Bits.{◌⊕◌, as_number, bits_of}
@@ -21,6 +22,10 @@ pub as_number_below : (bits : List Bool) → as_number bits < 2 ^ length bits
 as_number_below [] = omega arith
 as_number_below (true ∷ bits) = omega (arith, two-pow-succ (length bits), as_number_below bits)
 as_number_below (false ∷ bits) = omega (arith, two-pow-succ (length bits), as_number_below bits)
+
+from_bool_flag : (b : Bool) → from_bool b ≡ cond b 1 0
+from_bool_flag true = refl
+from_bool_flag false = refl
 
 flag_below : (b : Bool) → cond b 1 0 < 2
 flag_below true = omega arith
@@ -150,3 +155,28 @@ xor_runs f g a (suc n) =
     ∙ ap (λ (z : ℕ). z * 2 + cond (x ⊕ y) 1 0) (xor_runs f g a n)
     ∙ sym (as_number_more h a n)
     ∙ ap (λ (j : ℕ). as_number (map h (range_with_len a j))) (sym one)
+
+-- bits of a run shifted into a word of 64 bits, one after the other
+abbrev pub shift_in : (ℕ → Bool) → ℕ → ℕ → ℕ
+shift_in f word place = bit_or (word * 2 ^ 1 % 2 ^ 64) (from_bool (f place))
+
+pub fold_shift_in
+    : (f : ℕ → Bool) (word width a n : ℕ) → word < 2 ^ width → width + n ≤ 64
+    → fold (shift_in f) word (range_with_len a n) ≡ word * 2 ^ n + as_number (map f (range_with_len a n))
+fold_shift_in f word width a zero small few = omega arith
+fold_shift_in f word width a (suc n) small few =
+    let flag : ℕ = cond (f a) 1 0 in
+    let rest = map f (range_with_len (a + 1) n) in
+    let room : word * 2 ^ 1 % 2 ^ 64 ≡ word * 2 ^ 1 = shl_whole word width 1 64 small (omega arith) in
+    let low : from_bool (f a) ≡ flag = from_bool_flag (f a) in
+    let next : shift_in f word a ≡ word * 2 + flag
+    = ap (λ (x : ℕ). bit_or x (from_bool (f a))) room
+    ∙ ap (bit_or (word * 2 ^ 1)) low
+    ∙ or_shifted word 1 flag (flag_below (f a)) in
+    let wide : word * 2 + flag < 2 ^ (width + 1) = omega (arith, flag_below (f a), pow-add 2 width 1) in
+    let long : flag * 2 ^ length rest ≡ flag * 2 ^ n = ap (λ (k : ℕ). flag * 2 ^ k) (length-map-range_with_len f (a + 1) n) in
+    let twice : 2 * 2 ^ n ≡ 2 ^ suc n = omega (arith, two-pow-succ n) in
+    let high : word * 2 * 2 ^ n ≡ word * 2 ^ suc n = mul_assoc word 2 (2 ^ n) ∙ ap (λ (p : ℕ). word * p) twice in
+    ap (λ (x : ℕ). fold (shift_in f) x (range_with_len (a + 1) n)) next
+    ∙ fold_shift_in f (word * 2 + flag) (width + 1) (a + 1) n wide (omega arith)
+    ∙ omega (arith, add-mul (word * 2) flag (2 ^ n), high, long)

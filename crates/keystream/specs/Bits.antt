@@ -8,9 +8,9 @@
 --   byte_of f         the byte whose bits 0 to 7 are f 0 to f 7
 --
 -- From the library: range_with_len a n is the list a, a + 1, .. of n numbers; slice_index xs i is element i, or 0 past the end,
--- and slice_index_or xs i d is it, or d past the end; cond b x y is x where b is true, else y;
+-- and slice_index_or xs i d is it, or d past the end;
 -- beq tests Booleans, and nat_eq (also written ==), nat_lt and nat_le test =, < and ≤.
-use Rattle.std.specs.Prelude.{ℕ, ◌+◌, ◌-◌, ◌*◌, ◌/◌, ◌%◌, ◌^◌, Bool, cond, not, List, [], ◌∷◌, map, length, ◌==◌, nat_eq, slice_index}
+use Rattle.std.specs.Prelude.{ℕ, ◌+◌, ◌-◌, ◌*◌, ◌/◌, ◌%◌, ◌^◌, Bool, if◌then◌else◌, not, List, [], ◌∷◌, map, length, ◌==◌, nat_eq, slice_index}
 use Rattle.std.specs.Bool.{beq}
 use Rattle.std.specs.List.{range_with_len}
 
@@ -26,7 +26,7 @@ first_bits n bytes = map (bit_at bytes) (range_with_len 0 n)
 
 abbrev pub as_number : List Bool → ℕ
 as_number [] = 0
-as_number (b ∷ bits) = cond b 1 0 * 2 ^ length bits + as_number bits
+as_number (b ∷ bits) = (if b then 1 else 0) * 2 ^ length bits + as_number bits
 
 unfoldable pub bits_of : ℕ → ℕ → List Bool
 bits_of n x = map (λ i. nat_eq (x / 2 ^ (n - 1 - i) % 2) 1) (range_with_len 0 n)

@@ -5,12 +5,13 @@
 --   pad_bit bytes key variable i  keystream bit i
 --   pad_meaning bytes           what a pad of these bytes means
 --   pad_answer bytes            whether a pad is made of them
---   stream_meant, stream_sound  what the loaded part of a Pad means, and what every call keeps of it
---   meaning_of, meant_of, sound_of  the same of a whole Pad
-use Rattle.std.specs.Prelude.{ℕ, ◌+◌, ◌-◌, ◌*◌, ◌%◌, ◌≤◌, Bool, false, List, [], ◌∷◌, ◌++◌, length, replicate, Some, None, Option, Result}
+--   key_of, variable_of         the key and the variable of the loaded part of a Pad
+--   stream_meant                what the loaded part of a Pad means
+--   meaning_of, meant_of        what a whole Pad means
+use Rattle.std.specs.Prelude.{ℕ, ◌+◌, ◌-◌, ◌*◌, ◌%◌, Bool, false, List, [], ◌∷◌, ◌++◌, length, replicate, Some, None, Option, Result}
 use Rattle.keystream.specs.declared.fault.PadFault.{PadFault}
 use Rattle.keystream.specs.declared.pad.Pad.{Pad}
-use Rattle.keystream.specs.declared.pad.Stream.{Stream}
+use Rattle.keystream.specs.declared.stream.Stream.{Stream}
 use Rattle.keystream.specs.Bits.{◌⊕◌, bit_at, first_bits, as_number}
 use Rattle.keystream.specs.Meaning.{Meaning, Meant, Key, Variable, idle, loaded}
 use Rattle.keystream.specs.Refusals.{answered, pad_refusals}
@@ -33,16 +34,15 @@ pad_answer bytes = answered (pad_refusals bytes) tt
 abbrev pub meaning_of : Pad → Meaning
 meaning_of pad = pad_meaning pad.bytes
 
+abbrev pub key_of : Stream → Key
+key_of s = s.key ∷ []
+
+abbrev pub variable_of : Stream → Variable
+variable_of s = first_bits s.count (s.variable ∷ [])
+
 abbrev pub stream_meant : Option Stream → Meant
 stream_meant None = idle
-stream_meant (Some s) = loaded (s.key ∷ []) (first_bits s.count (s.variable ∷ [])) s.place
+stream_meant (Some s) = loaded (key_of s) (variable_of s) s.place
 
 abbrev pub meant_of : Pad → Meant
 meant_of pad = stream_meant pad.stream
-
-abbrev pub stream_sound : Option Stream → Type 0
-stream_sound None = Unit {0}
-stream_sound (Some s) = (s.count ≤ 4) × (s.place ≤ 512)
-
-abbrev pub sound_of : Pad → Type 0
-sound_of pad = stream_sound pad.stream

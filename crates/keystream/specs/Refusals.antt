@@ -5,7 +5,8 @@
 --   refusal_text          how a refusal is printed
 --   .._refusals           what a call tries: each condition with its refusal
 --   answered refusals x   the first refusal whose condition holds, or the answer x
-use Rattle.std.specs.Prelude.{ℕ, ◌+◌, ◌*◌, ◌/◌, ◌^◌, Bool, cond, not, ◌||◌, List, [], ◌∷◌, ◌++◌, length, Ok, Err, codes, decimal, Result, ◌==◌, nat_lt}
+--   whether answer x y    x where a call is accepted, y where it is refused
+use Rattle.std.specs.Prelude.{ℕ, ◌+◌, ◌*◌, ◌/◌, ◌^◌, Bool, if◌then◌else◌, not, ◌||◌, List, [], ◌∷◌, ◌++◌, length, Ok, Err, codes, decimal, Result, ◌==◌, nat_lt}
 use Rattle.keystream.specs.declared.fault.Layer.{Layer}
 use Rattle.keystream.specs.declared.fault.Layer.TheVariants as layers
 use Rattle.keystream.specs.declared.fault.GeneratorFault.{GeneratorFault}
@@ -16,7 +17,7 @@ use Rattle.keystream.specs.declared.fault.CapFault.{CapFault}
 use Rattle.keystream.specs.declared.fault.CapFault.TheVariants.{Limit}
 use Rattle.keystream.specs.declared.fault.SpanFault.{SpanFault}
 use Rattle.keystream.specs.declared.fault.SpanFault.TheVariants.{Outside, Generator}
-use Rattle.keystream.specs.Meaning.{Meaning, Meant, Key, left}
+use Rattle.keystream.specs.Meaning.{Meaning, Meant, Given, left}
 
 abbrev pub layer_name : Layer → List ℕ
 layer_name layers.Line = codes "line"
@@ -62,7 +63,11 @@ span_layer (Generator fault) = generator_layer fault
 
 abbrev pub answered : {X F : Type 0} → List (Bool × F) → X → Result X F
 answered [] x = Ok x
-answered ((condition, fault) ∷ rest) x = cond condition (Err fault) (answered rest x)
+answered ((condition, fault) ∷ rest) x = if condition then Err fault else answered rest x
+
+abbrev pub whether : {A F X : Type 0} → Result A F → X → X → X
+whether (Ok answer) x y = x
+whether (Err fault) x y = y
 
 -- making a pad of these bytes
 abbrev pub pad_refusals : List ℕ → List (Bool × PadFault)
@@ -73,11 +78,11 @@ abbrev pub cap_refusals : ℕ → List (Bool × CapFault)
 cap_refusals limit = (limit == 0 || nat_lt (2 ^ 54) limit, Limit) ∷ []
 
 -- load and check
-abbrev pub load_refusals : Meaning → Key → ℕ → List ℕ → List (Bool × GeneratorFault)
-load_refusals m key count bytes =
-    (not (8 * length key == m.key_bits), KeyLength)
-    ∷ ((nat_lt m.longest count, VariableTooLong)
-    ∷ ((not (length bytes == (count + 7) / 8), VariableBytes) ∷ []))
+abbrev pub load_refusals : Meaning → Given → List (Bool × GeneratorFault)
+load_refusals m given =
+    (not (8 * length given.key == m.key_bits), KeyLength)
+    ∷ ((nat_lt m.longest given.count, VariableTooLong)
+    ∷ ((not (length given.bytes == (given.count + 7) / 8), VariableBytes) ∷ []))
 
 abbrev pub take_refusals : Meaning → Meant → ℕ → List (Bool × GeneratorFault)
 take_refusals m s n = (n == 0 || nat_lt 64 n, TakeCount) ∷ ((nat_lt (left m s) n, TakeBeyond) ∷ [])

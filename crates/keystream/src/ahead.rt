@@ -8,6 +8,7 @@ ghost use Rattle.std.proofs.Common.{rules};
 use crate::buffer::{Buffer, joined};
 use crate::fault::GeneratorFault;
 use crate::generator::Generator;
+use crate::setup::Setup;
 
 #[derive(Drop)]
 pub struct ReadAhead<G> {
@@ -17,13 +18,12 @@ pub struct ReadAhead<G> {
 
 impl<G: Generator> ReadAhead<G> {
     // Puts a read-ahead over a generator and makes it forget.
-    pub fn new(below: G) -> ReadAhead<G>
-        requires { G.Generator.sound below }
-        ensures meaning { ahead_meaning G.Generator.meaning result ≡ G.Generator.meaning below }
-        ensures meant { ahead_meant G.Generator.meant result ≡ idle }
-        ensures sound { ahead_sound G.Generator.meaning G.Generator.meant G.Generator.sound result }
+    pub fn new(mut below: G) -> ReadAhead<G>
+        requires { G.sound below }
+        ensures meaning { ⟦<ReadAhead<G> as Generator>⟧.meaning result ≡ G.meaning below }
+        ensures unloaded { ⟦<ReadAhead<G> as Generator>⟧.meant result ≡ idle }
+        ensures sound { ⟦<ReadAhead<G> as Generator>⟧.sound result }
     {
-        let mut below = below;
         below.forget();
         ReadAhead {
             below,
@@ -33,26 +33,30 @@ impl<G: Generator> ReadAhead<G> {
 
     // The next n bits, out of the buffer.
     fn held(&mut self, n: u32) -> u64
-        requires sound { ahead_sound G.Generator.meaning G.Generator.meant G.Generator.sound self.old }
+        requires sound { ahead_sound G.meaning G.meant G.sound self.old }
         requires nonzero { 0 < n }
         requires held { n ≤ self.old.buffer.count }
-        ensures answer { result ≡ as_number (keystream (ahead_meaning G.Generator.meaning self.old) (ahead_meant G.Generator.meant self.old) n) }
-        ensures after { ahead_meant G.Generator.meant self.new ≡ moved (ahead_meant G.Generator.meant self.old) n }
-        ensures same { ahead_meaning G.Generator.meaning self.new ≡ ahead_meaning G.Generator.meaning self.old }
-        ensures kept { ahead_sound G.Generator.meaning G.Generator.meant G.Generator.sound self.new }
+        ensures answer { result ≡ as_number
+            (keystream (ahead_meaning G.meaning self.old) (ahead_meant G.meant self.old) n) }
+        ensures after { ahead_meant G.meant self.new ≡ moved (ahead_meant G.meant self.old) n }
+        ensures same { ahead_meaning G.meaning self.new ≡ ahead_meaning G.meaning self.old }
+        ensures kept { ahead_sound G.meaning G.meant G.sound self.new }
     {
         self.buffer.next(n)
     }
 
     // Hands out all bits held, and fills the buffer from below.
     fn refill(&mut self) -> Result<u64, GeneratorFault>
-        requires sound { ahead_sound G.Generator.meaning G.Generator.meant G.Generator.sound self.old }
-        requires some_left { 0 < left (G.Generator.meaning self.old.below) (G.Generator.meant self.old.below) }
-        ensures answer { result ≡ Ok (as_number (keystream (ahead_meaning G.Generator.meaning self.old) (ahead_meant G.Generator.meant self.old) self.old.buffer.count)) }
-        ensures after { ahead_meant G.Generator.meant self.new ≡ moved (ahead_meant G.Generator.meant self.old) self.old.buffer.count }
-        ensures same { ahead_meaning G.Generator.meaning self.new ≡ ahead_meaning G.Generator.meaning self.old }
-        ensures kept { ahead_sound G.Generator.meaning G.Generator.meant G.Generator.sound self.new }
-        ensures full { self.new.buffer.count ≡ min (left (G.Generator.meaning self.old.below) (G.Generator.meant self.old.below)) 64 }
+        requires sound { ahead_sound G.meaning G.meant G.sound self.old }
+        requires some_left { 0 < left (G.meaning self.old.below) (G.meant self.old.below) }
+        ensures answer { result ≡ Ok (as_number
+            (keystream (ahead_meaning G.meaning self.old) (ahead_meant G.meant self.old) self.old.buffer.count)) }
+        ensures after { ahead_meant G.meant self.new
+            ≡ moved (ahead_meant G.meant self.old) self.old.buffer.count }
+        ensures same { ahead_meaning G.meaning self.new ≡ ahead_meaning G.meaning self.old }
+        ensures kept { ahead_sound G.meaning G.meant G.sound self.new }
+        ensures full { self.new.buffer.count
+            ≡ min (left (G.meaning self.old.below) (G.meant self.old.below)) 64 }
     {
         let front = self.buffer.word;
         let count = self.below.left().min(64) as u32;
@@ -65,21 +69,17 @@ impl<G: Generator> ReadAhead<G> {
 impl<G: Generator> Generator for ReadAhead<G> {
     const KIND: u8 = G::KIND;
 
-    ghost kind = { G.Generator.kind };
+    ghost KIND = { G.KIND };
 
-    ghost meaning = { ahead_meaning G.Generator.meaning };
+    ghost meaning = { ahead_meaning G.meaning };
 
-    ghost meant = { ahead_meant G.Generator.meant };
+    ghost meant = { ahead_meant G.meant };
 
-    ghost sound = { ahead_sound G.Generator.meaning G.Generator.meant G.Generator.sound };
+    ghost sound = { ahead_sound G.meaning G.meant G.sound };
 
     ghost ranges = { Prim.search rules };
 
     ghost fits = { Prim.search rules };
-
-    fn kind_number(&self) -> u8 {
-        self.below.kind_number()
-    }
 
     fn key_bits(&self) -> usize {
         self.below.key_bits()
@@ -97,12 +97,12 @@ impl<G: Generator> Generator for ReadAhead<G> {
         self.below.left() + u64::from(self.buffer.count)
     }
 
-    fn check(&self, key: &[u8], count: usize, variable: &[u8]) -> Result<(), GeneratorFault> {
-        self.below.check(key, count, variable)
+    fn check(&self, setup: &Setup<'_>) -> Result<(), GeneratorFault> {
+        self.below.check(setup)
     }
 
-    fn load(&mut self, key: &[u8], count: usize, variable: &[u8]) -> Result<(), GeneratorFault> {
-        self.below.load(key, count, variable)?;
+    fn load(&mut self, setup: &Setup<'_>) -> Result<(), GeneratorFault> {
+        self.below.load(setup)?;
         self.buffer = Buffer::empty();
         Ok(())
     }

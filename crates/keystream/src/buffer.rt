@@ -45,7 +45,10 @@ fn low(word: u64, count: u32) -> u64
 // The bits of `high` and after them the `count` bits of `low`, as one number of at most 64 bits.
 pub(crate) fn joined(high: u64, low: u64, count: u32) -> u64
     requires { count ≤ 64 }
-    ensures { (m : Meaning) (s : Meant) (n total : ℕ) → n + count ≡ total → total ≤ 64 → high ≡ as_number (keystream m s n) → low ≡ as_number (keystream m (moved s n) count) → result ≡ as_number (keystream m s total) }
+    ensures { (m : Meaning) (s : Meant) (n total : ℕ) → n + count ≡ total → total ≤ 64
+        → high ≡ as_number (keystream m s n)
+        → low ≡ as_number (keystream m (moved s n) count)
+        → result ≡ as_number (keystream m s total) }
 {
     if count == 64 {
         return low;

@@ -1,11 +1,12 @@
 // The cap: any generator, with a limit of its own.
-ghost use Rattle.std.specs.Prelude.{◌≡◌, Ok, Err, MatchResult};
+ghost use Rattle.std.specs.Prelude.{◌≡◌, Ok, Err, IfOk, IfErr, MatchResult};
 ghost use Rattle.keystream.specs.Meaning.{idle};
 ghost use Rattle.keystream.specs.Capped.{capped, cap_answer, cap_meaning, cap_meant, cap_sound};
 ghost use Rattle.std.proofs.Common.{rules};
 
 use crate::fault::{CapFault, GeneratorFault};
 use crate::generator::Generator;
+use crate::setup::Setup;
 
 const MOST: u64 = 1 << 54;
 
@@ -24,14 +25,16 @@ pub struct CapRefused<G> {
 
 impl<G: Generator> Cap<G> {
     // Puts a cap over a generator and makes it forget.
-    pub fn new(below: G, limit: u64) -> Result<Cap<G>, CapRefused<G>>
-        requires { G.Generator.sound below }
-        ensures { MatchResult result
-            (λ made. (cap_answer limit ≡ Ok tt)
-            × (cap_meaning G.Generator.meaning made ≡ capped limit (G.Generator.meaning below))
-            × (cap_meant G.Generator.meant made ≡ idle)
-            × cap_sound G.Generator.meaning G.Generator.meant G.Generator.sound made)
-            (λ refused. (cap_answer limit ≡ Err refused.fault) × (refused.below ≡ below)) }
+    pub fn new(mut below: G, limit: u64) -> Result<Cap<G>, CapRefused<G>>
+        requires { G.sound below }
+        ensures answer { MatchResult result
+            (λ made. cap_answer limit ≡ Ok tt)
+            (λ refused. cap_answer limit ≡ Err refused.fault) }
+        ensures meaning { IfOk result (λ made.
+            ⟦<Cap<G> as Generator>⟧.meaning made ≡ capped limit (G.meaning below)) }
+        ensures unloaded { IfOk result (λ made. ⟦<Cap<G> as Generator>⟧.meant made ≡ idle) }
+        ensures sound { IfOk result ⟦<Cap<G> as Generator>⟧.sound }
+        ensures back { IfErr result (λ refused. refused.below ≡ below) }
     {
         if limit == 0 || limit > MOST {
             return Err(CapRefused {
@@ -39,7 +42,6 @@ impl<G: Generator> Cap<G> {
                 below,
             });
         }
-        let mut below = below;
         below.forget();
         Ok(Cap { below, limit })
     }
@@ -48,21 +50,17 @@ impl<G: Generator> Cap<G> {
 impl<G: Generator> Generator for Cap<G> {
     const KIND: u8 = G::KIND;
 
-    ghost kind = { G.Generator.kind };
+    ghost KIND = { G.KIND };
 
-    ghost meaning = { cap_meaning G.Generator.meaning };
+    ghost meaning = { cap_meaning G.meaning };
 
-    ghost meant = { cap_meant G.Generator.meant };
+    ghost meant = { cap_meant G.meant };
 
-    ghost sound = { cap_sound G.Generator.meaning G.Generator.meant G.Generator.sound };
+    ghost sound = { cap_sound G.meaning G.meant G.sound };
 
     ghost ranges = { Prim.search rules };
 
     ghost fits = { Prim.search rules };
-
-    fn kind_number(&self) -> u8 {
-        self.below.kind_number()
-    }
 
     fn key_bits(&self) -> usize {
         self.below.key_bits()
@@ -81,12 +79,12 @@ impl<G: Generator> Generator for Cap<G> {
         self.below.left().saturating_sub(above)
     }
 
-    fn check(&self, key: &[u8], count: usize, variable: &[u8]) -> Result<(), GeneratorFault> {
-        self.below.check(key, count, variable)
+    fn check(&self, setup: &Setup<'_>) -> Result<(), GeneratorFault> {
+        self.below.check(setup)
     }
 
-    fn load(&mut self, key: &[u8], count: usize, variable: &[u8]) -> Result<(), GeneratorFault> {
-        self.below.load(key, count, variable)
+    fn load(&mut self, setup: &Setup<'_>) -> Result<(), GeneratorFault> {
+        self.below.load(setup)
     }
 
     fn take(&mut self, n: u32) -> Result<u64, GeneratorFault> {

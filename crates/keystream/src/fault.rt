@@ -1,8 +1,11 @@
 // Why a call is refused: each refusal has a number and names its layer.
-ghost use Rattle.std.specs.Prelude.{◌≡◌, Some};
+ghost use Rattle.std.specs.Prelude.{◌≡◌, ℕ, Some};
+ghost use Rattle.std.specs.Fmt.{DisplaysOnOk};
+ghost use Rattle.keystream.specs.declared.fault.Layer.{Layer};
 ghost use Rattle.keystream.specs.declared.fault.SpanFault.TheVariants as spans;
 ghost use Rattle.keystream.specs.Refusals.{layer_name, refusal_text, generator_number, generator_layer, pad_number, pad_layer, cap_number, cap_layer, span_number, span_layer};
 
+use std::error::Error;
 use std::fmt;
 
 // Where a refusal comes from: the line that was typed, the station, or the generator under it.
@@ -17,40 +20,57 @@ impl fmt::Display for Layer {
     ghost output = { λ layer. Some (layer_name layer) };
 
     fn fmt<W: fmt::Write>(&self, f: &mut fmt::Formatter<W>) -> fmt::Result {
-        match self {
-            Layer::Line => f.write_str("line"),
-            Layer::Station => f.write_str("station"),
-            Layer::Generator => f.write_str("generator"),
-        }
+        f.write_str(match self {
+            Layer::Line => "line",
+            Layer::Station => "station",
+            Layer::Generator => "generator",
+        })
+    }
+}
+
+// A refusal of any layer.
+pub trait Refusal: Copy {
+    ghost number_of: { Self → ℕ };
+
+    ghost layer_of: { Self → Layer };
+
+    fn number(self) -> u8
+        ensures { result ≡ number_of self };
+
+    fn layer(self) -> Layer
+        ensures { result ≡ layer_of self };
+
+    // How each is printed: its number and its layer.
+    final fn show<W: fmt::Write>(self, f: &mut fmt::Formatter<W>) -> fmt::Result
+        ensures { DisplaysOnOk W.write_str_gives f.old result
+            (Some (refusal_text (number_of self) (layer_of self))) f.new }
+    {
+        let number = self.number();
+        let layer = self.layer();
+        write!(f, "{number} {layer}")
     }
 }
 
 // Why a generator refuses a load, a check or a take.
 #[derive(Clone, Copy, PartialEq, Eq, Debug)]
 pub enum GeneratorFault {
-    KeyLength,
-    VariableTooLong,
-    VariableBytes,
-    TakeCount,
-    TakeBeyond,
+    KeyLength = 21,
+    VariableTooLong = 22,
+    VariableBytes = 23,
+    TakeCount = 24,
+    TakeBeyond = 25,
 }
 
-impl GeneratorFault {
-    pub fn number(self) -> u8
-        ensures { result ≡ generator_number self }
-    {
-        match self {
-            GeneratorFault::KeyLength => 21,
-            GeneratorFault::VariableTooLong => 22,
-            GeneratorFault::VariableBytes => 23,
-            GeneratorFault::TakeCount => 24,
-            GeneratorFault::TakeBeyond => 25,
-        }
+impl Refusal for GeneratorFault {
+    ghost number_of = { generator_number };
+
+    ghost layer_of = { generator_layer };
+
+    fn number(self) -> u8 {
+        self as u8
     }
 
-    pub fn layer(self) -> Layer
-        ensures { result ≡ generator_layer self }
-    {
+    fn layer(self) -> Layer {
         match self {
             GeneratorFault::KeyLength
             | GeneratorFault::VariableTooLong
@@ -61,48 +81,64 @@ impl GeneratorFault {
     }
 }
 
+impl fmt::Display for GeneratorFault {
+    ghost output = { λ fault. Some (refusal_text (generator_number fault) (generator_layer fault)) };
+
+    fn fmt<W: fmt::Write>(&self, f: &mut fmt::Formatter<W>) -> fmt::Result {
+        GeneratorFault::show(*self, f)
+    }
+}
+
+impl Error for GeneratorFault {}
+
 // Why a pad is not made.
 #[derive(Clone, Copy, PartialEq, Eq, Debug)]
 pub enum PadFault {
-    Length,
+    Length = 28,
 }
 
-impl PadFault {
-    pub fn number(self) -> u8
-        ensures { result ≡ pad_number self }
-    {
-        match self {
-            PadFault::Length => 28,
-        }
+impl Refusal for PadFault {
+    ghost number_of = { pad_number };
+
+    ghost layer_of = { pad_layer };
+
+    fn number(self) -> u8 {
+        self as u8
     }
 
-    pub fn layer(self) -> Layer
-        ensures { result ≡ pad_layer self }
-    {
+    fn layer(self) -> Layer {
         match self {
             PadFault::Length => Layer::Generator,
         }
     }
 }
 
+impl fmt::Display for PadFault {
+    ghost output = { λ fault. Some (refusal_text (pad_number fault) (pad_layer fault)) };
+
+    fn fmt<W: fmt::Write>(&self, f: &mut fmt::Formatter<W>) -> fmt::Result {
+        PadFault::show(*self, f)
+    }
+}
+
+impl Error for PadFault {}
+
 // Why a cap is not put over a generator.
 #[derive(Clone, Copy, PartialEq, Eq, Debug)]
 pub enum CapFault {
-    Limit,
+    Limit = 29,
 }
 
-impl CapFault {
-    pub fn number(self) -> u8
-        ensures { result ≡ cap_number self }
-    {
-        match self {
-            CapFault::Limit => 29,
-        }
+impl Refusal for CapFault {
+    ghost number_of = { cap_number };
+
+    ghost layer_of = { cap_layer };
+
+    fn number(self) -> u8 {
+        self as u8
     }
 
-    pub fn layer(self) -> Layer
-        ensures { result ≡ cap_layer self }
-    {
+    fn layer(self) -> Layer {
         match self {
             CapFault::Limit => Layer::Generator,
         }
@@ -116,19 +152,19 @@ pub enum SpanFault {
     Generator(GeneratorFault),
 }
 
-impl SpanFault {
-    pub fn number(self) -> u8
-        ensures { result ≡ span_number self }
-    {
+impl Refusal for SpanFault {
+    ghost number_of = { span_number };
+
+    ghost layer_of = { span_layer };
+
+    fn number(self) -> u8 {
         match self {
             SpanFault::Outside => 30,
             SpanFault::Generator(fault) => fault.number(),
         }
     }
 
-    pub fn layer(self) -> Layer
-        ensures { result ≡ span_layer self }
-    {
+    fn layer(self) -> Layer {
         match self {
             SpanFault::Outside => Layer::Generator,
             SpanFault::Generator(fault) => fault.layer(),
@@ -140,11 +176,11 @@ impl fmt::Display for SpanFault {
     ghost output = { λ fault. Some (refusal_text (span_number fault) (span_layer fault)) };
 
     fn fmt<W: fmt::Write>(&self, f: &mut fmt::Formatter<W>) -> fmt::Result {
-        let number = self.number();
-        let layer = self.layer();
-        write!(f, "{number} {layer}")
+        SpanFault::show(*self, f)
     }
 }
+
+impl Error for SpanFault {}
 
 // A refusal of the generator passes up whole.
 impl From<GeneratorFault> for SpanFault {

@@ -4,13 +4,13 @@ ghost use Rattle.keystream.specs.Meaning.{Meaning, Meant, idle, Ranges, Fits, le
 ghost use Rattle.keystream.specs.Calls.{load_answer, load_after, take_answer, take_after};
 
 use crate::fault::GeneratorFault;
+use crate::setup::Setup;
 
 pub trait Generator {
     // The number of the kind. A generator that stands on another has the number of the one below.
     const KIND: u8;
 
-    // The same number, for contracts; `kind_number` ties the constant to it.
-    ghost kind: { ℕ };
+    ghost KIND: { ℕ };
 
     // The four things that never change.
     ghost meaning: { Self → Meaning };
@@ -21,8 +21,11 @@ pub trait Generator {
     // What the making sets up and each call keeps.
     ghost sound: { Self → Type 0 };
 
-    fn kind_number(&self) -> u8
-        ensures { result ≡ kind };
+    final fn kind_number(&self) -> u8
+        ensures { result ≡ KIND }
+    {
+        Self::KIND
+    }
 
     fn key_bits(&self) -> usize
         requires { sound self.now }
@@ -41,15 +44,15 @@ pub trait Generator {
         ensures { result ≡ left (meaning self.now) (meant self.now) };
 
     // What load would answer.
-    fn check(&self, key: &[u8], count: usize, variable: &[u8]) -> Result<(), GeneratorFault>
+    fn check(&self, setup: &Setup<'_>) -> Result<(), GeneratorFault>
         requires { sound self.now }
-        ensures { result ≡ load_answer (meaning self.now) key.now count variable.now };
+        ensures { result ≡ load_answer (meaning self.now) setup.now };
 
-    // Takes in a key and a variable of `count` bits, and goes to place 0.
-    fn load(&mut self, key: &[u8], count: usize, variable: &[u8]) -> Result<(), GeneratorFault>
+    // Takes in a key and a variable, and goes to place 0.
+    fn load(&mut self, setup: &Setup<'_>) -> Result<(), GeneratorFault>
         requires { sound self.old }
-        ensures answer { result ≡ load_answer (meaning self.old) key.now count variable.now }
-        ensures after { meant self.new ≡ load_after (meaning self.old) (meant self.old) key.now count variable.now }
+        ensures answer { result ≡ load_answer (meaning self.old) setup.now }
+        ensures after { meant self.new ≡ load_after (meaning self.old) (meant self.old) setup.now }
         ensures same { meaning self.new ≡ meaning self.old }
         ensures kept { sound self.new };
 

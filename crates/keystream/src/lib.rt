@@ -8,6 +8,8 @@ pub mod cap;
 pub mod fault;
 pub mod generator;
 pub mod pad;
+pub mod setup;
 pub mod span;
+mod stream;
 #[cfg(test)]
 mod tests;

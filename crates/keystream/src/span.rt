@@ -1,5 +1,5 @@
 // A keystream applied to a span of bits of a buffer.
-ghost use Rattle.std.specs.Prelude.{◌≡◌, ℕ, ◌+◌, ◌*◌, ◌^◌, ◌<◌, ◌≤◌, length, Ok};
+ghost use Rattle.std.specs.Prelude.{◌≡◌, ℕ, ◌+◌, ◌*◌, ◌^◌, ◌<◌, ◌≤◌, length, Ok, bit_xor, slice_index};
 ghost use Rattle.keystream.specs.Bits.{◌⊕◌, bit_at, bits_of};
 ghost use Rattle.keystream.specs.Meaning.{keystream};
 ghost use Rattle.keystream.specs.Span.{laid, sealed, apply_answer, apply_buffer, apply_after};
@@ -10,20 +10,30 @@ use crate::generator::Generator;
 // The most bits of one take.
 const DRAW: usize = 64;
 
+// XORs each byte with the byte of the mask at its place.
+fn xor_bytes(bytes: &mut [u8], mask: &[u8; 16])
+    requires { length bytes.old ≤ 16 }
+    ensures { (k : ℕ) → k < length bytes.old
+        → slice_index bytes.new k ≡ bit_xor (slice_index bytes.old k) (slice_index mask.now k) }
+{
+    for (j, byte) in bytes.iter_mut().enumerate() {
+        *byte ^= mask[j];
+    }
+}
+
 // XORs the `count` bits of a word, the first most significant, into the buffer from a bit of a byte on.
-fn lay(buffer: &mut [u8], byte: usize, bit: usize, word: u64, count: u32)
+fn lay(buffer: &mut [u8], from: usize, bit: usize, word: u64, count: u32)
     requires bit { bit < 8 }
     requires nonzero { 0 < count }
     requires most { count ≤ 64 }
     requires word { word < 2 ^ count }
-    requires within { 8 * byte + bit + count ≤ 8 * length buffer.old }
-    ensures { buffer.new ≡ sealed buffer.old (8 * byte + bit) (bits_of count word) }
+    requires within { 8 * from + bit + count ≤ 8 * length buffer.old }
+    ensures { buffer.new ≡ sealed buffer.old (8 * from + bit) (bits_of count word) }
 {
-    // 64 bits reach over at most nine bytes
     let mask = (u128::from(word) << (128 - bit - count as usize)).to_be_bytes();
-    for j in 0..(buffer.len() - byte).min(9) {
-        buffer[byte + j] ^= mask[j];
-    }
+    // 64 bits reach over at most nine bytes
+    let end = buffer.len().min(from + 9);
+    xor_bytes(&mut buffer[from..end], &mask);
 }
 
 // XORs n bits of the buffer, from bit `first` on, with the next n keystream bits.
@@ -33,28 +43,32 @@ pub fn apply<G: Generator>(
     first: usize,
     n: usize,
 ) -> Result<(), SpanFault>
-    requires { G.Generator.sound generator.old }
-    ensures answer { result ≡ apply_answer (G.Generator.meaning generator.old) (G.Generator.meant generator.old) buffer.old first n }
-    ensures buffer { buffer.new ≡ apply_buffer (G.Generator.meaning generator.old) (G.Generator.meant generator.old) buffer.old first n }
-    ensures after { G.Generator.meant generator.new ≡ apply_after (G.Generator.meaning generator.old) (G.Generator.meant generator.old) buffer.old first n }
-    ensures same { G.Generator.meaning generator.new ≡ G.Generator.meaning generator.old }
-    ensures kept { G.Generator.sound generator.new }
-    ensures bits { result ≡ Ok tt → (i : ℕ) → i < 8 * length buffer.old → bit_at buffer.new i ≡ bit_at buffer.old i ⊕ laid first (keystream (G.Generator.meaning generator.old) (G.Generator.meant generator.old) n) i }
-    ensures twice { apply_buffer (G.Generator.meaning generator.old) (G.Generator.meant generator.old) buffer.new first n ≡ buffer.old }
+    requires { G.sound generator.old }
+    ensures answer { result
+        ≡ apply_answer (G.meaning generator.old) (G.meant generator.old) buffer.old first n }
+    ensures buffer { buffer.new
+        ≡ apply_buffer (G.meaning generator.old) (G.meant generator.old) buffer.old first n }
+    ensures after { G.meant generator.new
+        ≡ apply_after (G.meaning generator.old) (G.meant generator.old) buffer.old first n }
+    ensures same { G.meaning generator.new ≡ G.meaning generator.old }
+    ensures kept { G.sound generator.new }
+    ensures bits { result ≡ Ok tt → (i : ℕ) → i < 8 * length buffer.old
+        → bit_at buffer.new i ≡ bit_at buffer.old i
+        ⊕ laid first (keystream (G.meaning generator.old) (G.meant generator.old) n) i }
+    ensures twice { apply_buffer (G.meaning generator.old) (G.meant generator.old) buffer.new first n
+        ≡ buffer.old }
 {
     if first as u128 + n as u128 > 8 * buffer.len() as u128 {
         return Err(SpanFault::Outside);
     }
     if n as u64 > generator.left() {
-        return Err(SpanFault::Generator(GeneratorFault::TakeBeyond));
+        return Err(GeneratorFault::TakeBeyond.into());
     }
-    let mut done = 0;
-    while done < n {
+    for done in (0..n).step_by(DRAW) {
         let count = (n - done).min(DRAW) as u32;
         let word = generator.take(count)?;
         let bit = first % 8 + done;
         lay(buffer, first / 8 + bit / 8, bit % 8, word, count);
-        done += count as usize;
     }
     Ok(())
 }

@@ -1,8 +1,9 @@
 // Worked figures. Expected values come from the rules by hand or by another program.
 use crate::bits::bit;
-use crate::fault::{GeneratorFault, Layer, SpanFault};
+use crate::fault::{GeneratorFault, Layer, Refusal, SpanFault};
 use crate::generator::Generator;
 use crate::pad::Pad;
+use crate::setup::Setup;
 use crate::span::apply;
 use std::test::Fail;
 
@@ -10,7 +11,7 @@ use std::test::Fail;
 #[test]
 fn pad_of_0f(rt: HostRuntime) -> Result<(), Fail> {
     let mut pad = Pad::new(&[0x0f; 1024])?;
-    pad.load(&[0xa5], 4, &[0x30])?;
+    pad.load(&Setup::new(&[0xa5], 4, &[0x30]))?;
     assert_eq!(rt; pad.take(8)?, 0xaa);
     assert_eq!(rt; pad.take(56)?, 0xaa_aaaa_aaaa_aaaa);
     assert_eq!(rt; pad.take(64)?, 0xaaaa_aaaa_aaaa_aaaa);
@@ -31,12 +32,12 @@ fn takes_refused(rt: HostRuntime) -> Result<(), Fail> {
     let mut pad = Pad::new(&[0x0f; 1024])?;
     assert_eq!(rt; pad.take(1), Err(GeneratorFault::TakeBeyond));
     assert_eq!(rt; pad.take(0), Err(GeneratorFault::TakeCount));
-    pad.load(&[0xa5], 0, &[])?;
+    pad.load(&Setup::new(&[0xa5], 0, &[]))?;
     assert_eq!(rt; pad.take(0), Err(GeneratorFault::TakeCount));
     assert_eq!(rt; pad.take(65), Err(GeneratorFault::TakeCount));
     assert_eq!(rt; pad.take(3)?, 0b101);
     assert_eq!(rt;
-        pad.load(&[0xa5, 0xa5], 0, &[]),
+        pad.load(&Setup::new(&[0xa5, 0xa5], 0, &[])),
         Err(GeneratorFault::KeyLength)
     );
     assert_eq!(rt; pad.left(), 509);
@@ -50,30 +51,30 @@ fn takes_refused(rt: HostRuntime) -> Result<(), Fail> {
 fn loads_refused(rt: HostRuntime) -> Result<(), Fail> {
     let mut pad = Pad::new(&[0x0f; 1024])?;
     assert_eq!(rt;
-        pad.load(&[0xa5, 0xa5], 4, &[0x30]),
+        pad.load(&Setup::new(&[0xa5, 0xa5], 4, &[0x30])),
         Err(GeneratorFault::KeyLength)
     );
     assert_eq!(rt;
-        pad.load(&[0xa5], 5, &[0x30]),
+        pad.load(&Setup::new(&[0xa5], 5, &[0x30])),
         Err(GeneratorFault::VariableTooLong)
     );
     assert_eq!(rt;
-        pad.load(&[0xa5], 4, &[0x30, 0]),
+        pad.load(&Setup::new(&[0xa5], 4, &[0x30, 0])),
         Err(GeneratorFault::VariableBytes)
     );
     assert_eq!(rt;
-        pad.load(&[0xa5], 0, &[0]),
+        pad.load(&Setup::new(&[0xa5], 0, &[0])),
         Err(GeneratorFault::VariableBytes)
     );
     assert_eq!(rt;
-        pad.check(&[], 5, &[0x30, 0]),
+        pad.check(&Setup::new(&[], 5, &[0x30, 0])),
         Err(GeneratorFault::KeyLength)
     );
     assert_eq!(rt;
-        pad.check(&[0xa5], 5, &[]),
+        pad.check(&Setup::new(&[0xa5], 5, &[])),
         Err(GeneratorFault::VariableTooLong)
     );
-    assert_eq!(rt; pad.check(&[0xa5], 4, &[0x3f]), Ok(()));
+    assert_eq!(rt; pad.check(&Setup::new(&[0xa5], 4, &[0x3f])), Ok(()));
     assert_eq!(rt; pad.left(), 0);
     Ok(())
 }
@@ -98,6 +99,8 @@ fn numbers_and_layers(rt: HostRuntime) -> Result<(), Fail> {
     assert_eq!(rt; Pad::KIND, 2);
     assert_eq!(rt; short.number(), 28);
     assert_eq!(rt; short.layer(), Layer::Generator);
+    let shown = format!(in rt.alloc(); "{short}, {}", GeneratorFault::TakeBeyond)?;
+    assert_eq!(rt; shown.as_str(), "28 generator, 25 generator");
     assert_eq!(rt; GeneratorFault::KeyLength.number(), 21);
     assert_eq!(rt; GeneratorFault::VariableTooLong.number(), 22);
     assert_eq!(rt; GeneratorFault::VariableBytes.number(), 23);
@@ -111,11 +114,7 @@ fn numbers_and_layers(rt: HostRuntime) -> Result<(), Fail> {
 
 // Byte j is 7j + ⌊j / 64⌋ modulo 256.
 fn rising_pad() -> [u8; 1024] {
-    let mut bytes = [0; 1024];
-    for j in 0..1024 {
-        bytes[j] = ((7 * j + j / 64) % 256) as u8;
-    }
-    bytes
+    std::array::from_fn(|j| ((7 * j + j / 64) % 256) as u8)
 }
 
 // Spans of several alignments and lengths over the rising pad, key 3c, variable 1010.
@@ -208,7 +207,7 @@ fn spans(rt: HostRuntime) -> Result<(), Fail> {
     ];
     for (first, n, after) in cases {
         let mut pad = Pad::new(&bytes)?;
-        pad.load(&[0x3c], 4, &[0xa0])?;
+        pad.load(&Setup::new(&[0x3c], 4, &[0xa0]))?;
         let mut buffer = before;
         apply(&mut pad, &mut buffer, first, n)?;
         assert_eq!(rt; buffer, after);
@@ -229,7 +228,7 @@ fn spans_refused(rt: HostRuntime) -> Result<(), Fail> {
         apply(&mut pad, &mut buffer, 0, 1),
         Err(SpanFault::Generator(GeneratorFault::TakeBeyond))
     );
-    pad.load(&[0xa5], 0, &[])?;
+    pad.load(&Setup::new(&[0xa5], 0, &[]))?;
     assert_eq!(rt;
         apply(&mut pad, &mut buffer, usize::MAX, usize::MAX),
         Err(SpanFault::Outside)

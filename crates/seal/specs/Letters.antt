@@ -6,13 +6,16 @@
 --   Undecimal text          no such numeral
 --   ReadsLetter             what a letter's lines say
 --   ReadsNone               the first line that says nothing
+--   Refused                 the error of a letter that is not read: ReadsNone of its line, and nothing of want of memory
 --   line_name               what that line is called
 use Rattle.std.specs.Prelude.{◌≡◌, ℕ, ◌^◌, ◌<◌, List, vec_items, codes, ◌≢◌}
 use Rattle.std.specs.Str.Parse.{IsNumeral, digits_value, without_leading_plus}
 use Rattle.hexadecimal.specs.Digits.{hex_text, ByteString}
 use Rattle.seal.specs.declared.letter.Letter.{Letter}
-use Rattle.seal.specs.declared.letter.Unreadable.{Unreadable}
-use Rattle.seal.specs.declared.letter.Unreadable.TheVariants.{Key, BitCount, Variable}
+use Rattle.seal.specs.declared.letter.Line.{Line}
+use Rattle.seal.specs.declared.letter.Line.TheVariants.{Key, BitCount, Variable}
+use Rattle.seal.specs.declared.letter.LetterError.{LetterError}
+use Rattle.seal.specs.declared.letter.LetterError.TheVariants.{Unreadable, OutOfMemory}
 
 abbrev pub Hexadecimal : List ℕ → List ℕ → Type 0
 Hexadecimal text bytes = ByteString bytes × (hex_text bytes ≡ text)
@@ -30,13 +33,17 @@ abbrev pub ReadsLetter : List ℕ → List ℕ → List ℕ → Letter → Type 
 ReadsLetter key count variable letter =
     Hexadecimal key (vec_items letter.key) × Decimal count letter.count × Hexadecimal variable (vec_items letter.variable)
 
-abbrev pub ReadsNone : List ℕ → List ℕ → List ℕ → Unreadable → Type 0
+abbrev pub ReadsNone : List ℕ → List ℕ → List ℕ → Line → Type 0
 ReadsNone key count variable Key = Unhexadecimal key
 ReadsNone key count variable BitCount = ((bytes : List ℕ) × Hexadecimal key bytes) × Undecimal count
 ReadsNone key count variable Variable =
     ((bytes : List ℕ) × Hexadecimal key bytes) × ((n : ℕ) × Decimal count n) × Unhexadecimal variable
 
-abbrev pub line_name : Unreadable → List ℕ
+abbrev pub Refused : List ℕ → List ℕ → List ℕ → LetterError → Type 0
+Refused key count variable (Unreadable line) = ReadsNone key count variable line
+Refused key count variable (OutOfMemory cause) = Unit {0}
+
+abbrev pub line_name : Line → List ℕ
 line_name Key = codes "key"
 line_name BitCount = codes "bit count"
 line_name Variable = codes "variable"

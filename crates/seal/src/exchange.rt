@@ -1,25 +1,25 @@
 // A message sealed by one generator and opened by another.
 ghost use Rattle.std.specs.Prelude.{◌≡◌, length, Ok};
-ghost use Rattle.seal.specs.Sealing.{whether, seal_answer, seal_message, seal_after, exchange_answer};
+ghost use Rattle.keystream.specs.Refusals.{whether};
+ghost use Rattle.seal.specs.Sealing.{seal_answer, seal_message, seal_after, exchange_answer};
 
 use keystream::fault::{GeneratorFault, SpanFault};
 use keystream::generator::Generator;
+use keystream::setup::Setup;
 use keystream::span::apply;
 
 // Whether a message can be sealed under a key and a variable.
 pub(crate) fn sealable<G: Generator>(
     generator: &G,
-    key: &[u8],
-    count: usize,
-    variable: &[u8],
+    setup: &Setup<'_>,
     message: &[u8],
 ) -> Result<(), SpanFault>
-    requires { G.Generator.sound generator.now }
-    ensures { result ≡ seal_answer (G.Generator.meaning generator.now) key.now count variable.now message.now }
+    requires { G.sound generator.now }
+    ensures { result ≡ seal_answer (G.meaning generator.now) setup.now message.now }
 {
-    generator.check(key, count, variable)?;
+    generator.check(setup)?;
     if message.len().saturating_mul(8) as u64 > generator.limit() {
-        return Err(SpanFault::Generator(GeneratorFault::TakeBeyond));
+        return Err(GeneratorFault::TakeBeyond.into());
     }
     Ok(())
 }
@@ -27,21 +27,20 @@ pub(crate) fn sealable<G: Generator>(
 // Seals a message from the first keystream bit on. What is sealed is opened the same way.
 pub(crate) fn seal<G: Generator>(
     generator: &mut G,
-    key: &[u8],
-    count: usize,
-    variable: &[u8],
+    setup: &Setup<'_>,
     message: &mut [u8],
 ) -> Result<(), SpanFault>
-    requires { G.Generator.sound generator.old }
-    ensures answer { result ≡ seal_answer (G.Generator.meaning generator.old) key.now count variable.now message.old }
-    ensures message { message.new ≡ seal_message (G.Generator.meaning generator.old) key.now count variable.now message.old }
-    ensures after { G.Generator.meant generator.new ≡ seal_after (G.Generator.meaning generator.old) (G.Generator.meant generator.old) key.now count variable.now message.old }
-    ensures same { G.Generator.meaning generator.new ≡ G.Generator.meaning generator.old }
-    ensures kept { G.Generator.sound generator.new }
-    ensures twice { seal_message (G.Generator.meaning generator.old) key.now count variable.now message.new ≡ message.old }
+    requires { G.sound generator.old }
+    ensures answer { result ≡ seal_answer (G.meaning generator.old) setup.now message.old }
+    ensures message { message.new ≡ seal_message (G.meaning generator.old) setup.now message.old }
+    ensures after { G.meant generator.new
+        ≡ seal_after (G.meaning generator.old) (G.meant generator.old) setup.now message.old }
+    ensures same { G.meaning generator.new ≡ G.meaning generator.old }
+    ensures kept { G.sound generator.new }
+    ensures twice { seal_message (G.meaning generator.old) setup.now message.new ≡ message.old }
 {
-    sealable(generator, key, count, variable, message)?;
-    generator.load(key, count, variable)?;
+    sealable(generator, setup, message)?;
+    generator.load(setup)?;
     apply(generator, message, 0, 8 * message.len())
 }
 
@@ -49,29 +48,38 @@ pub(crate) fn seal<G: Generator>(
 pub(crate) fn exchange<G: Generator, H: Generator>(
     sender: &mut G,
     receiver: &mut H,
-    key: &[u8],
-    count: usize,
-    variable: &[u8],
+    setup: &Setup<'_>,
     message: &mut [u8],
     opened: &mut [u8],
 ) -> Result<(), SpanFault>
-    requires sender { G.Generator.sound sender.old }
-    requires receiver { H.Generator.sound receiver.old }
+    requires sender { G.sound sender.old }
+    requires receiver { H.sound receiver.old }
     requires lengths { length opened.old ≡ length message.old }
-    ensures answer { result ≡ exchange_answer (G.Generator.meaning sender.old) (H.Generator.meaning receiver.old) key.now count variable.now message.old }
-    ensures message { message.new ≡ whether (exchange_answer (G.Generator.meaning sender.old) (H.Generator.meaning receiver.old) key.now count variable.now message.old) (seal_message (G.Generator.meaning sender.old) key.now count variable.now message.old) message.old }
-    ensures opened { opened.new ≡ whether (exchange_answer (G.Generator.meaning sender.old) (H.Generator.meaning receiver.old) key.now count variable.now message.old) (seal_message (H.Generator.meaning receiver.old) key.now count variable.now (seal_message (G.Generator.meaning sender.old) key.now count variable.now message.old)) opened.old }
-    ensures back { H.Generator.meaning receiver.old ≡ G.Generator.meaning sender.old → (result ≡ seal_answer (G.Generator.meaning sender.old) key.now count variable.now message.old) × (result ≡ Ok tt → opened.new ≡ message.old) }
-    ensures sender_after { G.Generator.meant sender.new ≡ whether (exchange_answer (G.Generator.meaning sender.old) (H.Generator.meaning receiver.old) key.now count variable.now message.old) (seal_after (G.Generator.meaning sender.old) (G.Generator.meant sender.old) key.now count variable.now message.old) (G.Generator.meant sender.old) }
-    ensures sender_same { G.Generator.meaning sender.new ≡ G.Generator.meaning sender.old }
-    ensures sender_kept { G.Generator.sound sender.new }
-    ensures receiver_after { H.Generator.meant receiver.new ≡ whether (exchange_answer (G.Generator.meaning sender.old) (H.Generator.meaning receiver.old) key.now count variable.now message.old) (seal_after (H.Generator.meaning receiver.old) (H.Generator.meant receiver.old) key.now count variable.now message.old) (H.Generator.meant receiver.old) }
-    ensures receiver_same { H.Generator.meaning receiver.new ≡ H.Generator.meaning receiver.old }
-    ensures receiver_kept { H.Generator.sound receiver.new }
+    ensures answer { result
+        ≡ exchange_answer (G.meaning sender.old) (H.meaning receiver.old) setup.now message.old }
+    ensures message { message.new
+        ≡ whether result (seal_message (G.meaning sender.old) setup.now message.old) message.old }
+    ensures opened { opened.new ≡ whether result
+        (seal_message (H.meaning receiver.old) setup.now
+        (seal_message (G.meaning sender.old) setup.now message.old))
+        opened.old }
+    ensures back { H.meaning receiver.old ≡ G.meaning sender.old
+        → (result ≡ seal_answer (G.meaning sender.old) setup.now message.old)
+        × (result ≡ Ok tt → opened.new ≡ message.old) }
+    ensures sender_after { G.meant sender.new ≡ whether result
+        (seal_after (G.meaning sender.old) (G.meant sender.old) setup.now message.old)
+        (G.meant sender.old) }
+    ensures sender_same { G.meaning sender.new ≡ G.meaning sender.old }
+    ensures sender_kept { G.sound sender.new }
+    ensures receiver_after { H.meant receiver.new ≡ whether result
+        (seal_after (H.meaning receiver.old) (H.meant receiver.old) setup.now message.old)
+        (H.meant receiver.old) }
+    ensures receiver_same { H.meaning receiver.new ≡ H.meaning receiver.old }
+    ensures receiver_kept { H.sound receiver.new }
 {
-    sealable(sender, key, count, variable, message)?;
-    sealable(receiver, key, count, variable, message)?;
-    seal(sender, key, count, variable, message)?;
+    sealable(sender, setup, message)?;
+    sealable(receiver, setup, message)?;
+    seal(sender, setup, message)?;
     opened.copy_from_slice(message);
-    seal(receiver, key, count, variable, opened)
+    seal(receiver, setup, opened)
 }

@@ -1,7 +1,9 @@
 // The key and the variable of a letter, read from its lines.
-ghost use Rattle.std.specs.Prelude.{IfOk, Some, MatchResult};
-ghost use Rattle.seal.specs.Letters.{ReadsLetter, ReadsNone, line_name};
+ghost use Rattle.std.specs.Prelude.{◌≡◌, Some, MatchResult};
+ghost use Rattle.seal.specs.declared.letter.LetterError.TheVariants.{Unreadable, OutOfMemory};
+ghost use Rattle.seal.specs.Letters.{ReadsLetter, Refused, line_name};
 
+use keystream::setup::Setup;
 use std::alloc::{AllocError, Global};
 use std::fmt;
 
@@ -12,23 +14,46 @@ pub(crate) struct Letter {
     pub(crate) variable: Vec<u8>,
 }
 
-// The first line of a letter that cannot be read.
+// What a line of a letter is read for.
 #[derive(Clone, Copy)]
-pub(crate) enum Unreadable {
+pub(crate) enum Line {
     Key,
     BitCount,
     Variable,
 }
 
-impl fmt::Display for Unreadable {
+impl fmt::Display for Line {
     ghost output = { λ line. Some (line_name line) };
 
     fn fmt<W: fmt::Write>(&self, f: &mut fmt::Formatter<W>) -> fmt::Result {
-        match self {
-            Unreadable::Key => f.write_str("key"),
-            Unreadable::BitCount => f.write_str("bit count"),
-            Unreadable::Variable => f.write_str("variable"),
-        }
+        f.write_str(match self {
+            Line::Key => "key",
+            Line::BitCount => "bit count",
+            Line::Variable => "variable",
+        })
+    }
+}
+
+// Why a letter is not read: its first unreadable line, or want of memory.
+#[derive(Clone, Copy)]
+pub(crate) enum LetterError {
+    Unreadable(Line),
+    OutOfMemory(AllocError),
+}
+
+impl From<Line> for LetterError {
+    ghost from_gives = { λ line error. error ≡ Unreadable line };
+
+    fn from(line: Line) -> LetterError {
+        LetterError::Unreadable(line)
+    }
+}
+
+impl From<AllocError> for LetterError {
+    ghost from_gives = { λ cause error. error ≡ OutOfMemory cause };
+
+    fn from(cause: AllocError) -> LetterError {
+        LetterError::OutOfMemory(cause)
     }
 }
 
@@ -38,24 +63,26 @@ impl Letter {
         key: &str,
         count: &str,
         variable: &str,
-    ) -> Result<Result<Letter, Unreadable>, AllocError>
-        ensures { IfOk result (λ letter. MatchResult letter
+    ) -> Result<Letter, LetterError>
+        ensures { MatchResult result
             (ReadsLetter key.now count.now variable.now)
-            (ReadsNone key.now count.now variable.now)) }
+            (Refused key.now count.now variable.now) }
     {
-        let Some(key) = hexadecimal::read(heap, key.as_bytes())? else {
-            return Ok(Err(Unreadable::Key));
-        };
-        let Ok(count) = count.parse::<usize>() else {
-            return Ok(Err(Unreadable::BitCount));
-        };
-        let Some(variable) = hexadecimal::read(heap, variable.as_bytes())? else {
-            return Ok(Err(Unreadable::Variable));
-        };
-        Ok(Ok(Letter {
+        let key = hexadecimal::read(heap, key.as_bytes())?.ok_or(Line::Key)?;
+        let count = count.parse::<usize>().map_err(|_| Line::BitCount)?;
+        let variable = hexadecimal::read(heap, variable.as_bytes())?.ok_or(Line::Variable)?;
+        Ok(Letter {
             key,
             count,
             variable,
-        }))
+        })
+    }
+    // What a generator is loaded with.
+    pub(crate) fn setup(&self) -> Setup<'_>
+        ensures key { result.key ≡ self.now.key.items }
+        ensures count { result.count ≡ self.now.count }
+        ensures variable { result.bytes ≡ self.now.variable.items }
+    {
+        Setup::new(&self.key, self.count, &self.variable)
     }
 }

@@ -6,9 +6,8 @@ mod letter;
 mod pad_bytes;
 mod reply;
 
-use anyhow::anyhow;
 use keystream::pad::Pad;
-use letter::Letter;
+use letter::{Letter, LetterError};
 use pad_bytes::pad_bytes;
 use reply::reply;
 
@@ -16,12 +15,18 @@ use reply::reply;
 fn deliver(rt: &HostRuntime, letter: &Letter, message: &str) -> anyhow::Result<()> {
     let heap = rt.alloc();
     let bytes = pad_bytes();
-    let (Ok(sender), Ok(receiver)) = (Pad::new(&bytes), Pad::new(&bytes)) else {
-        return Err(anyhow!("the pad is not of 1,024 bytes"));
-    };
+    let sender = Pad::new(&bytes)?;
+    let receiver = Pad::new(&bytes)?;
     let mut sealed = Vec::from_slice(heap, message.as_bytes())?;
     let mut opened = vec![in heap; 0; message.len()]?;
-    let text = reply(heap, sender, receiver, letter, &mut sealed, &mut opened)?;
+    let text = reply(
+        heap,
+        sender,
+        receiver,
+        &letter.setup(),
+        &mut sealed,
+        &mut opened,
+    )?;
     println!(rt; "{text}")?;
     Ok(())
 }
@@ -34,34 +39,25 @@ fn answer(
     variable: &str,
     message: &str,
 ) -> anyhow::Result<()> {
-    match Letter::read(rt.alloc(), key, count, variable)? {
+    match Letter::read(rt.alloc(), key, count, variable) {
         Ok(letter) => deliver(rt, &letter, message),
-        Err(line) => {
+        Err(LetterError::Unreadable(line)) => {
             println!(rt; "unreadable {line}")?;
             Ok(())
         }
+        Err(LetterError::OutOfMemory(cause)) => Err(cause.into()),
     }
 }
 
 // Answers the letters on standard input.
 fn run(rt: &HostRuntime) -> anyhow::Result<()> {
     let heap = rt.alloc();
-    let mut key = String::new(heap);
-    let mut count = String::new(heap);
-    let mut variable = String::new(heap);
-    for (i, line) in rt.lines(heap).enumerate() {
-        let line = line?;
-        match i % 4 {
-            0 => key = line,
-            1 => count = line,
-            2 => variable = line,
-            _ => answer(
-                rt,
-                key.as_str(),
-                count.as_str(),
-                variable.as_str(),
-                line.as_str(),
-            )?,
+    let mut lines = Vec::new(heap);
+    for line in rt.lines(heap) {
+        lines.push(line?)?;
+        if let [key, count, variable, message] = lines.as_slice() {
+            answer(rt, key, count, variable, message)?;
+            lines.clear();
         }
     }
     Ok(())

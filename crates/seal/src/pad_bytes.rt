@@ -6,9 +6,5 @@ ghost use Rattle.std.specs.List.{range_with_len};
 pub(crate) fn pad_bytes() -> [u8; 1024]
     ensures { result ≡ map (λ j. (7 * j + j / 64) % 256) (range_with_len 0 1024) }
 {
-    let mut bytes = [0; 1024];
-    for j in 0..1024 {
-        bytes[j] = ((7 * j + j / 64) % 256) as u8;
-    }
-    bytes
+    std::array::from_fn(|j| ((7 * j + j / 64) % 256) as u8)
 }

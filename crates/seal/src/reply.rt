@@ -1,11 +1,12 @@
 // The text that answers a letter.
 ghost use Rattle.std.specs.Prelude.{◌≡◌, length, IfOk, string_bytes, IsUtf8};
 ghost use Rattle.seal.specs.Replies.{delivered_text, reply_text};
-ghost use Rattle.seal.specs.Sealing.{whether, seal_answer, seal_message};
+ghost use Rattle.keystream.specs.Refusals.{whether};
+ghost use Rattle.seal.specs.Sealing.{seal_answer, seal_message};
 
 use crate::exchange::exchange;
-use crate::letter::Letter;
 use keystream::generator::Generator;
+use keystream::setup::Setup;
 use std::alloc::{AllocError, Global};
 
 // What was sealed and what was opened, a line each.
@@ -25,28 +26,22 @@ pub(crate) fn reply<G: Generator + Drop>(
     heap: Global,
     mut sender: G,
     mut receiver: G,
-    letter: &Letter,
+    setup: &Setup<'_>,
     message: &mut [u8],
     opened: &mut [u8],
 ) -> Result<String, AllocError>
-    requires sender { G.Generator.sound sender }
-    requires receiver { G.Generator.sound receiver }
-    requires same { G.Generator.meaning receiver ≡ G.Generator.meaning sender }
+    requires sender { G.sound sender }
+    requires receiver { G.sound receiver }
+    requires same { G.meaning receiver ≡ G.meaning sender }
     requires utf8 { IsUtf8 message.old }
     requires lengths { length opened.old ≡ length message.old }
-    ensures text { IfOk result (λ text. string_bytes text ≡ reply_text (G.Generator.meaning sender) letter.now.key.items letter.now.count letter.now.variable.items message.old) }
-    ensures message { message.new ≡ seal_message (G.Generator.meaning sender) letter.now.key.items letter.now.count letter.now.variable.items message.old }
-    ensures opened { opened.new ≡ whether (seal_answer (G.Generator.meaning sender) letter.now.key.items letter.now.count letter.now.variable.items message.old) message.old opened.old }
+    ensures text { IfOk result (λ text.
+        string_bytes text ≡ reply_text (G.meaning sender) setup.now message.old) }
+    ensures message { message.new ≡ seal_message (G.meaning sender) setup.now message.old }
+    ensures opened { opened.new
+        ≡ whether (seal_answer (G.meaning sender) setup.now message.old) message.old opened.old }
 {
-    match exchange(
-        &mut sender,
-        &mut receiver,
-        &letter.key,
-        letter.count,
-        &letter.variable,
-        message,
-        opened,
-    ) {
+    match exchange(&mut sender, &mut receiver, setup, message, opened) {
         Ok(()) => delivered(heap, message, opened),
         Err(fault) => format!(in heap; "no {fault}"),
     }

@@ -1,80 +1,72 @@
-use Rattle.std.proofs.Common.{◌≡◌, ℕ, ◌+◌, ◌*◌, ◌/◌, ◌%◌, ◌^◌, ◌<◌, ◌≤◌, Ok, sym, refl, ap, ◌∙◌, subst, arith}
-use Rattle.keystream.specs.Bits.{bit_at, bits_of}
-use Rattle.keystream.specs.Meaning.{keystream, moved, left}
-use Rattle.keystream.specs.Span.{sealed, apply_answer, apply_buffer}
-use Rattle.keystream.proofs.Streams.{moved_none, keystream_none, keystream_below}
-use Rattle.keystream.proofs.Sealing.{sealed_none, sealed_bit}
-use Rattle.keystream.proofs.Applying.{drawn_word, drawn_moves, drawn_laid, apply_accepts, apply_seals, apply_moves, apply_twice}
+use Rattle.std.proofs.Common.{◌≡◌, ◌+◌, sym, refl, ◌∙◌, rules, arith}
+use Rattle.keystream.proofs.Streams.{moved_none, keystream_none}
+use Rattle.keystream.proofs.Sealing.{sealed_none}
+use Rattle.keystream.proofs.Applying.{taken_below, taken_laid, apply_accepts, apply_seals, whole_bits, whole_twice}
 use Rattle.keystream.proofs.span.apply.Goals as goal
 
 pub loop-done-init : goal.loop-done-init
 loop-done-init g c =
     let m = g.G.Generator.meaning c.args.generator.now in
-    let s = g.G.Generator.meant c.args.generator.now in
-    let buffer = c.args.buffer.now in (
-      omega arith,
-      refl,
-      sym (moved_none s),
-      c.requires,
-      sym (ap (sealed buffer c.args.first) (keystream_none m s) ∙ sealed_none buffer c.args.first),
-    )
+    let s = g.G.Generator.meant c.args.generator.now in record {
+      within = omega arith;
+      same = refl;
+      after = sym (moved_none s);
+      kept = c.requires;
+      buffer = rw (keystream_none m s, sealed_none);
+    }
 
 pub lay-requires-clause-word : goal.lay-requires-clause-word
 lay-requires-clause-word g c =
-    let m = g.G.Generator.meaning c.args.generator.now in
-    let s = g.G.Generator.meant c.args.generator.now in
-    let done = c.loop-done.done in
-    let k = c.min-count.result in
-    let inv = c.loop-done.invariant in
-    let low : 0 < k = omega arith in
-    let high : k ≤ 64 = omega arith in
-    let within : done + k ≤ left m s = omega arith in
-    let word = drawn_word m _ s _ done k inv.1 inv.2 low high within c.in_ok-word.word c.in_ok-word.ensures.answer in
-    subst (λ (x : ℕ). x < 2 ^ k) (sym word) (keystream_below m (moved s done) k)
+    taken_below (g.G.Generator.meaning c.loop-done.generator) (g.G.Generator.meant c.loop-done.generator) _ _ c.in_ok-word.ensures.answer
 
 pub loop-done-preserved : goal.loop-done-preserved
 loop-done-preserved g c =
     let m = g.G.Generator.meaning c.args.generator.now in
     let s = g.G.Generator.meant c.args.generator.now in
-    let buffer = c.args.buffer.now in
-    let first = c.args.first in
     let done = c.loop-done.done in
-    let k = c.min-count.result in
-    let word = c.in_ok-word.word in
     let inv = c.loop-done.invariant in
-    let took = c.in_ok-word.ensures in
-    let low : 0 < k = omega arith in
-    let high : k ≤ 64 = omega arith in
-    let within : done + k ≤ left m s = omega arith in
-    let place = 8 * (first / 8 + (first % 8 + done) / 8) + (first % 8 + done) % 8 in
-    let at : place ≡ first + done = omega arith in (
-      omega arith,
-      took.same ∙ inv.1,
-      took.after ∙ drawn_moves m _ s _ done k inv.1 inv.2 low high within,
-      took.kept,
-      c.lay.ensures
-          ∙ ap (λ b. sealed b place (bits_of k word)) inv.4
-          ∙ ap (λ (i : ℕ). sealed (sealed buffer first (keystream m s done)) i (bits_of k word)) at
-          ∙ drawn_laid m _ s _ done k inv.1 inv.2 low high within buffer first word took.answer,
-    )
+    let took = c.in_ok-word.ensures in record {
+      within = omega arith;
+      same = took.same ∙ inv.same;
+      after = search rules;
+      kept = took.kept;
+      buffer =
+          c.lay.ensures
+          ∙ taken_laid m _ s _ c.args.buffer.now _ c.args.first done _ (done + 64) _ _ inv.same inv.after inv.buffer took.answer (omega arith) (omega arith) (omega arith);
+    }
 
-pub returns : goal.returns
-returns g c =
+pub returns-else-n-left-clause-bits : goal.returns-else-n-left-clause-bits
+returns-else-n-left-clause-bits g c =
+    let m = g.G.Generator.meaning c.args.generator.now in
+    let s = g.G.Generator.meant c.args.generator.now in
+    let all : c.loop-done.done ≡ c.args.n = omega arith in
+    λ _. whole_bits m s c.args.buffer.now _ c.args.first c.args.n (rw (← all) c.loop-done.invariant.buffer)
+
+pub returns-else-n-left-clause-twice : goal.returns-else-n-left-clause-twice
+returns-else-n-left-clause-twice g c =
+    let m = g.G.Generator.meaning c.args.generator.now in
+    let s = g.G.Generator.meant c.args.generator.now in
+    let all : c.loop-done.done ≡ c.args.n = omega arith in
+    whole_twice m s c.args.buffer.now _ c.args.first c.args.n (rw (← all) c.loop-done.invariant.buffer) (apply_accepts m s _ _ _ (omega arith) (omega arith))
+
+pub returns-in_ok-word : goal.returns-in_ok-word
+returns-in_ok-word g c =
     let m = g.G.Generator.meaning c.args.generator.now in
     let s = g.G.Generator.meant c.args.generator.now in
     let buffer = c.args.buffer.now in
     let first = c.args.first in
     let n = c.args.n in
     let inv = c.loop-done.invariant in
-    let all : c.loop-done.done ≡ n = omega arith in
-    let answer : apply_answer m s buffer first n ≡ Ok tt = apply_accepts m s buffer first n (omega arith) (omega arith) in
-    let after : c.loop-done.buffer ≡ sealed buffer first (keystream m s n) = inv.4 ∙ ap (λ (k : ℕ). sealed buffer first (keystream m s k)) all in
-    record {
+    let took = c.in_ok-word.ensures in
+    let whole =
+    c.lay.ensures
+    ∙ taken_laid m _ s _ buffer _ first c.loop-done.done _ n _ _ inv.same inv.after inv.buffer took.answer (omega arith) (omega arith) (omega arith) in
+    let answer = apply_accepts m s buffer first n (omega arith) (omega arith) in record {
       answer = sym answer;
-      buffer = after ∙ sym (apply_seals m s buffer first n answer);
-      after = inv.2 ∙ ap (moved s) all ∙ sym (apply_moves m s buffer first n answer);
-      same = inv.1;
-      kept = inv.3;
-      bits = λ _ i h. ap (λ b. bit_at b i) after ∙ sealed_bit buffer first (keystream m s n) i h;
-      twice = ap (λ b. apply_buffer m s b first n) after ∙ apply_twice m s buffer first n answer;
+      buffer = whole ∙ sym (apply_seals m s buffer first n answer);
+      after = search rules;
+      same = took.same ∙ inv.same;
+      kept = took.kept;
+      bits = λ _. whole_bits m s buffer _ first n whole;
+      twice = whole_twice m s buffer _ first n whole answer;
     }

@@ -1,19 +1,11 @@
-use Rattle.std.proofs.Common.{refl, ap, ◌∙◌}
-use Rattle.keystream.specs.Ahead.{back}
-use Rattle.keystream.proofs.Holding.{held_front, held_after, held_rest}
+use Rattle.std.proofs.Common.{◌∙◌}
+use Rattle.keystream.proofs.Holding.{held_front, held_rest}
 use Rattle.keystream.proofs.ahead.ReadAhead.held.Goals as goal
 
-pub returns : goal.returns
-returns g c =
-    let m = g.G.Generator.meaning c.args.self.now.below in
-    let s = g.G.Generator.meant c.args.self.now.below in
-    let b = c.args.self.now.buffer in
-    let h = c.requires.sound.0 in
-    let n = c.args.n in
-    let l = c.requires.held in
-    record {
-      answer = c.next.ensures.answer ∙ held_front m s b h n l;
-      after = ap (back s) c.next.ensures.count ∙ held_after m s b h n l;
-      same = refl;
-      kept = (held_rest m s b h n l c.next.new.self c.next.ensures.word c.next.ensures.count, c.requires.sound.1);
-    }
+pub returns-clause-answer : goal.returns-clause-answer
+returns-clause-answer g c =
+    c.next.ensures.answer
+    ∙ held_front (g.G.Generator.meaning c.args.self.now.below) (g.G.Generator.meant c.args.self.now.below) c.args.self.now.buffer c.requires.sound.0 c.args.n c.requires.held
+
+pub returns-clause-kept : goal.returns-clause-kept
+returns-clause-kept g c = (held_rest (g.G.Generator.meaning c.args.self.now.below) (g.G.Generator.meant c.args.self.now.below) c.args.self.now.buffer c.requires.sound.0 c.args.n c.requires.held c.next.new.self c.next.ensures.word c.next.ensures.count, c.requires.sound.1)

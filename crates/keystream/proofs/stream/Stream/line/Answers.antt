@@ -1,12 +1,12 @@
 use Rattle.std.proofs.Common.{◌≡◌, ℕ, ◌+◌, ◌-◌, ◌*◌, ◌/◌, ◌%◌, ◌^◌, ◌<◌, false, [], ◌∷◌, ◌++◌, length, replicate, sym, ap, ◌∙◌, subst, arith, length-append, rules}
-use lib.ListN.{length-replicate}
+use Rattle.std.proofs.lemmas.List.{length-replicate}
 use Rattle.std.proofs.lemmas.Nat.{shl_whole, shr_le}
 use Rattle.keystream.specs.Bits.{first_bits, as_number}
 use Rattle.keystream.specs.PadKind.{line_number}
 use Rattle.keystream.proofs.Numbers.{as_number-append, as_number_below, as_number_zeros}
 use Rattle.keystream.specs.PadLaws.{first_bits_length}
 use Rattle.keystream.proofs.Bytes.{number_of_first_bits}
-use Rattle.keystream.proofs.pad.Stream.line.Goals as goal
+use Rattle.keystream.proofs.stream.Stream.line.Goals as goal
 
 line_is : (v n : ℕ) → v < 2 ^ 8 → n < 5 → line_number (first_bits n (v ∷ [])) ≡ v / 2 ^ (8 - n) * 2 ^ (4 - n)
 line_is v n h l =

@@ -1,0 +1,82 @@
+// What a pad has loaded: a key, a variable and a place.
+ghost use Rattle.std.specs.Prelude.{◌≡◌, ◌^◌, ◌<◌, ◌≤◌, [], ◌∷◌, length, Some};
+ghost use Rattle.keystream.specs.Bits.{as_number, first_bits};
+
+use crate::bits::bit;
+use crate::setup::Setup;
+
+pub(crate) const LINE_BITS: usize = 512;
+
+pub(crate) const LONGEST: usize = 4;
+
+// The variable is the first `count` bits of its byte.
+#[derive(Clone, Copy)]
+pub(crate) struct Stream {
+    key: u8,
+    count: usize,
+    variable: u8,
+    pub(crate) place: usize,
+    ghost short: { count ≤ 4 },
+    ghost within: { place ≤ 512 },
+}
+
+impl Stream {
+    ghost use Rattle.keystream.specs.Meaning.{keystream};
+    ghost use Rattle.keystream.specs.Calls.{begun};
+    ghost use Rattle.keystream.specs.PadKind.{pad_bit, line_number, pad_meaning, key_of, variable_of, stream_meant};
+
+    // The stream of a setup, from place 0 on.
+    pub(crate) fn begin(setup: &Setup<'_>) -> Stream
+        requires key { length setup.now.key ≡ 1 }
+        requires count { setup.now.count ≤ 4 }
+        ensures { stream_meant (Some result) ≡ begun setup.now }
+    {
+        Stream {
+            key: key_byte(setup.key),
+            count: setup.count,
+            variable: variable_byte(setup.count, setup.variable),
+            place: 0,
+        }
+    }
+
+    // The line of the pad that is read.
+    fn line(self) -> usize
+        ensures value { result ≡ line_number (variable_of self) }
+        ensures bound { result < 16 }
+    {
+        usize::from(self.variable) >> (8 - self.count) << (LONGEST - self.count)
+    }
+
+    // The keystream bit at a place.
+    fn bit(self, pad: &[u8], place: usize) -> bool
+        requires { place < 2 ^ 63 }
+        ensures { result ≡ pad_bit pad.now (key_of self) (variable_of self) place }
+    {
+        bit(pad, LINE_BITS * self.line() + place) ^ bit(&[self.key], place % 8)
+    }
+
+    // The next n keystream bits as one number, the first most significant.
+    pub(crate) fn number(self, pad: &[u8], n: u32) -> u64
+        requires { n ≤ 64 }
+        ensures { result ≡ as_number (keystream (pad_meaning pad.now) (stream_meant (Some self)) n) }
+    {
+        let end = self.place + n as usize;
+        (self.place..end).fold(0, |word, place| word << 1 | u64::from(self.bit(pad, place)))
+    }
+}
+
+// The byte of a key of one byte.
+fn key_byte(key: &[u8]) -> u8
+    requires { length key.now ≡ 1 }
+    ensures { result ∷ [] ≡ key.now }
+{
+    key[0]
+}
+
+// The byte that holds the bits of a short variable; 0 where it has none.
+fn variable_byte(count: usize, variable: &[u8]) -> u8
+    requires { count ≤ 8 }
+    ensures { first_bits count (result ∷ []) ≡ first_bits count variable.now }
+{
+    variable.first().copied().unwrap_or(0)
+}
