@@ -1,18 +1,10 @@
 // Byte strings as hexadecimal text: two digits to a byte, '0' to '9' and 'a' to 'f'.
 #![tactic(auto)]
 
-ghost use Rattle.std.specs.Prelude.{◌≡◌, ℕ, ◌<◌, List, IfOk, string_bytes, MatchOption, ◌≢◌};
+ghost use Rattle.std.specs.Prelude.{◌≡◌, ℕ, ◌<◌, List, [], ◌∷◌, IfOk, string_bytes, MatchOption, ◌≢◌};
 ghost use Rattle.hexadecimal.specs.Digits.{hex_digit, hex_text, ByteString};
 
 use std::alloc::{AllocError, Global};
-
-// The character of a digit.
-fn digit(value: u8) -> char
-    requires { value < 16 }
-    ensures { result ≡ hex_digit value }
-{
-    char::from_digit(u32::from(value), 16).unwrap()
-}
 
 // The digit that a character stands for, if it stands for one.
 fn value(digit: char) -> Option<u8>
@@ -28,19 +20,28 @@ fn value(digit: char) -> Option<u8>
     }
 }
 
-// The text of a byte string.
+/// The text of a byte string.
 pub fn text(heap: Global, bytes: &[u8]) -> Result<String, AllocError>
     ensures { IfOk result (λ t. string_bytes t ≡ hex_text bytes.now) }
 {
     let mut text = String::new(heap);
     for byte in bytes {
-        text.push(digit(byte / 16))?;
-        text.push(digit(byte % 16))?;
+        write!(text, "{byte:02x}")?;
     }
     Ok(text)
 }
 
-// The byte string of a text, if it is the text of one.
+// The byte that two characters write, if they write one.
+fn byte(pair: &[u8; 2]) -> Option<u8>
+    ensures { MatchOption result
+        ((b : ℕ) → b < 256 → hex_text (b ∷ []) ≢ pair.now)
+        (λ b. hex_text (b ∷ []) ≡ pair.now) }
+{
+    let [high, low] = *pair;
+    Some(16 * value(char::from(high))? + value(char::from(low))?)
+}
+
+/// The byte string of a text, if it is the text of one.
 pub fn read(heap: Global, text: &[u8]) -> Result<Option<Vec<u8>>, AllocError>
     ensures { IfOk result (λ found. MatchOption found
         ((bytes : List ℕ) → ByteString bytes → hex_text bytes ≢ text.now)
@@ -51,14 +52,11 @@ pub fn read(heap: Global, text: &[u8]) -> Result<Option<Vec<u8>>, AllocError>
         return Ok(None);
     }
     let mut bytes = Vec::new(heap);
-    for [high, low] in pairs {
-        let Some(high) = value(char::from(*high)) else {
+    for pair in pairs {
+        let Some(byte) = byte(pair) else {
             return Ok(None);
         };
-        let Some(low) = value(char::from(*low)) else {
-            return Ok(None);
-        };
-        bytes.push(16 * high + low)?;
+        bytes.push(byte)?;
     }
     Ok(Some(bytes))
 }

@@ -2,7 +2,7 @@
 --
 --   Key         the bytes of a key
 --   Variable    the bits of an initialisation variable; two variables are the same when these lists are
---   Given       what a load is handed: a key, and a variable as the first `count` bits of some bytes
+--   Given       what a load is handed: a key, and the bytes whose first `count` bits are the variable
 --   Meaning     key length and longest variable in bits, the limit, and the keystream bit of each key, variable and place
 --   Meant       nothing, or a key, a variable and a place
 --   Ranges, Fits  what is so of every generator: of its meaning, and of what is loaded
@@ -21,7 +21,7 @@ Variable = List Bool
 pub record Given : Type 0 where
   pub key : Key
   pub count : ℕ
-  pub bytes : List ℕ
+  pub variable : List ℕ
 
 pub record Meaning : Type 0 where
   pub key_bits : ℕ

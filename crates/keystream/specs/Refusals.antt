@@ -5,7 +5,6 @@
 --   refusal_text          how a refusal is printed
 --   .._refusals           what a call tries: each condition with its refusal
 --   answered refusals x   the first refusal whose condition holds, or the answer x
---   whether answer x y    x where a call is accepted, y where it is refused
 use Rattle.std.specs.Prelude.{ℕ, ◌+◌, ◌*◌, ◌/◌, ◌^◌, Bool, if◌then◌else◌, not, ◌||◌, List, [], ◌∷◌, ◌++◌, length, Ok, Err, codes, decimal, Result, ◌==◌, nat_lt}
 use Rattle.keystream.specs.declared.fault.Layer.{Layer}
 use Rattle.keystream.specs.declared.fault.Layer.TheVariants as layers
@@ -65,10 +64,6 @@ abbrev pub answered : {X F : Type 0} → List (Bool × F) → X → Result X F
 answered [] x = Ok x
 answered ((condition, fault) ∷ rest) x = if condition then Err fault else answered rest x
 
-abbrev pub whether : {A F X : Type 0} → Result A F → X → X → X
-whether (Ok answer) x y = x
-whether (Err fault) x y = y
-
 -- making a pad of these bytes
 abbrev pub pad_refusals : List ℕ → List (Bool × PadFault)
 pad_refusals bytes = (not (length bytes == 1024), Length) ∷ []
@@ -82,10 +77,11 @@ abbrev pub load_refusals : Meaning → Given → List (Bool × GeneratorFault)
 load_refusals m given =
     (not (8 * length given.key == m.key_bits), KeyLength)
     ∷ ((nat_lt m.longest given.count, VariableTooLong)
-    ∷ ((not (length given.bytes == (given.count + 7) / 8), VariableBytes) ∷ []))
+    ∷ ((not (length given.variable == (given.count + 7) / 8), VariableBytes) ∷ []))
 
-abbrev pub take_refusals : Meaning → Meant → ℕ → List (Bool × GeneratorFault)
-take_refusals m s n = (n == 0 || nat_lt 64 n, TakeCount) ∷ ((nat_lt (left m s) n, TakeBeyond) ∷ [])
+-- taking n bits where `rest` bits are left
+abbrev pub take_refusals : ℕ → ℕ → List (Bool × GeneratorFault)
+take_refusals rest n = (n == 0 || nat_lt 64 n, TakeCount) ∷ ((nat_lt rest n, TakeBeyond) ∷ [])
 
 -- applying a keystream to n bits from bit `first` on of a buffer of `size` bytes
 abbrev pub span_refusals : Meaning → Meant → ℕ → ℕ → ℕ → List (Bool × SpanFault)

@@ -3,12 +3,12 @@
 --   laid first bits i         the bit that lies over bit i when these bits are laid over a buffer from bit `first` on; false where none does
 --   sealed buffer first bits  the whole buffer, each byte XOR the bits that lie over it
 --   apply_answer, apply_buffer, apply_after  what applying the next n keystream bits answers, and the buffer and the generator after it
-use Rattle.std.specs.Prelude.{ℕ, ◌+◌, ◌-◌, ◌*◌, Bool, false, if◌then◌else◌, List, map, length, Result, bit_xor, nat_le, slice_index, slice_index_or}
+use Rattle.std.specs.Prelude.{ℕ, ◌+◌, ◌-◌, ◌*◌, Bool, false, if◌then◌else◌, List, map, length, Result, is_ok, bit_xor, nat_le, slice_index, slice_index_or}
 use Rattle.std.specs.List.{range_with_len}
 use Rattle.keystream.specs.declared.fault.SpanFault.{SpanFault}
 use Rattle.keystream.specs.Bits.{byte_of}
 use Rattle.keystream.specs.Meaning.{Meaning, Meant, keystream, moved}
-use Rattle.keystream.specs.Refusals.{answered, whether, span_refusals}
+use Rattle.keystream.specs.Refusals.{answered, span_refusals}
 
 abbrev pub laid : ℕ → List Bool → ℕ → Bool
 laid first bits i = if nat_le first i then slice_index_or bits (i - first) false else false
@@ -21,7 +21,8 @@ abbrev pub apply_answer : Meaning → Meant → List ℕ → ℕ → ℕ → Res
 apply_answer m s buffer first n = answered (span_refusals m s (length buffer) first n) tt
 
 abbrev pub apply_buffer : Meaning → Meant → List ℕ → ℕ → ℕ → List ℕ
-apply_buffer m s buffer first n = whether (apply_answer m s buffer first n) (sealed buffer first (keystream m s n)) buffer
+apply_buffer m s buffer first n =
+    if is_ok (apply_answer m s buffer first n) then sealed buffer first (keystream m s n) else buffer
 
 abbrev pub apply_after : Meaning → Meant → List ℕ → ℕ → ℕ → Meant
-apply_after m s buffer first n = whether (apply_answer m s buffer first n) (moved s n) s
+apply_after m s buffer first n = if is_ok (apply_answer m s buffer first n) then moved s n else s

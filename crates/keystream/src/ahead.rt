@@ -7,7 +7,7 @@ ghost use Rattle.std.proofs.Common.{rules};
 
 use crate::buffer::{Buffer, joined};
 use crate::fault::GeneratorFault;
-use crate::generator::Generator;
+use crate::generator::{Generator, check_take};
 use crate::setup::Setup;
 
 #[derive(Drop)]
@@ -17,7 +17,7 @@ pub struct ReadAhead<G> {
 }
 
 impl<G: Generator> ReadAhead<G> {
-    // Puts a read-ahead over a generator and makes it forget.
+    /// Puts a read-ahead over a generator and makes it forget.
     pub fn new(mut below: G) -> ReadAhead<G>
         requires { G.sound below }
         ensures meaning { ⟦<ReadAhead<G> as Generator>⟧.meaning result ≡ G.meaning below }
@@ -27,7 +27,7 @@ impl<G: Generator> ReadAhead<G> {
         below.forget();
         ReadAhead {
             below,
-            buffer: Buffer::empty(),
+            buffer: Buffer::default(),
         }
     }
 
@@ -81,6 +81,7 @@ impl<G: Generator> Generator for ReadAhead<G> {
 
     ghost fits = { Prim.search rules };
 
+    // What the generator below answers is passed on, call by call: Rust has no shorter form.
     fn key_bits(&self) -> usize {
         self.below.key_bits()
     }
@@ -103,17 +104,12 @@ impl<G: Generator> Generator for ReadAhead<G> {
 
     fn load(&mut self, setup: &Setup<'_>) -> Result<(), GeneratorFault> {
         self.below.load(setup)?;
-        self.buffer = Buffer::empty();
+        self.buffer = Buffer::default();
         Ok(())
     }
 
     fn take(&mut self, n: u32) -> Result<u64, GeneratorFault> {
-        if n == 0 || n > 64 {
-            return Err(GeneratorFault::TakeCount);
-        }
-        if u64::from(n) > self.left() {
-            return Err(GeneratorFault::TakeBeyond);
-        }
+        check_take(self.left(), n)?;
         if n <= self.buffer.count {
             return Ok(self.held(n));
         }
@@ -125,6 +121,6 @@ impl<G: Generator> Generator for ReadAhead<G> {
 
     fn forget(&mut self) {
         self.below.forget();
-        self.buffer = Buffer::empty();
+        self.buffer = Buffer::default();
     }
 }

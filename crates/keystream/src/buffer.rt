@@ -1,22 +1,15 @@
-// A plain buffer of up to 64 bits, the first most significant.
+// A plain buffer of bits, the first most significant: a word, and how many of its lowest bits are held.
 ghost use Rattle.std.specs.Prelude.{◌≡◌, ℕ, ◌+◌, ◌-◌, ◌/◌, ◌%◌, ◌^◌, ◌<◌, ◌≤◌};
 ghost use Rattle.keystream.specs.Bits.{as_number};
 ghost use Rattle.keystream.specs.Meaning.{Meaning, Meant, keystream, moved};
 
-#[derive(Clone, Copy)]
+#[derive(Clone, Copy, Default)]
 pub(crate) struct Buffer {
     pub(crate) word: u64,
     pub(crate) count: u32,
 }
 
 impl Buffer {
-    pub(crate) fn empty() -> Buffer
-        ensures word { result.word ≡ 0 }
-        ensures count { result.count ≡ 0 }
-    {
-        Buffer { word: 0, count: 0 }
-    }
-
     // Takes the first n bits out.
     pub(crate) fn next(&mut self, n: u32) -> u64
         requires nonzero { 0 < n }
@@ -50,8 +43,5 @@ pub(crate) fn joined(high: u64, low: u64, count: u32) -> u64
         → low ≡ as_number (keystream m (moved s n) count)
         → result ≡ as_number (keystream m s total) }
 {
-    if count == 64 {
-        return low;
-    }
-    high << count | low
+    high.unbounded_shl(count) | low
 }

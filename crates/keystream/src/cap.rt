@@ -5,10 +5,10 @@ ghost use Rattle.keystream.specs.Capped.{capped, cap_answer, cap_meaning, cap_me
 ghost use Rattle.std.proofs.Common.{rules};
 
 use crate::fault::{CapFault, GeneratorFault};
-use crate::generator::Generator;
+use crate::generator::{Generator, check_take};
 use crate::setup::Setup;
 
-const MOST: u64 = 1 << 54;
+const LIMIT_MOST: u64 = 1 << 54;
 
 #[derive(Drop)]
 pub struct Cap<G> {
@@ -16,7 +16,7 @@ pub struct Cap<G> {
     limit: u64,
 }
 
-// A cap that is not made: why, and the generator as it was handed in.
+/// A cap that is not made: why, and the generator as it was handed in.
 #[derive(Drop)]
 pub struct CapRefused<G> {
     pub fault: CapFault,
@@ -24,7 +24,7 @@ pub struct CapRefused<G> {
 }
 
 impl<G: Generator> Cap<G> {
-    // Puts a cap over a generator and makes it forget.
+    /// Puts a cap over a generator and makes it forget.
     pub fn new(mut below: G, limit: u64) -> Result<Cap<G>, CapRefused<G>>
         requires { G.sound below }
         ensures answer { MatchResult result
@@ -36,7 +36,7 @@ impl<G: Generator> Cap<G> {
         ensures sound { IfOk result ⟦<Cap<G> as Generator>⟧.sound }
         ensures back { IfErr result (λ refused. refused.below ≡ below) }
     {
-        if limit == 0 || limit > MOST {
+        if limit == 0 || limit > LIMIT_MOST {
             return Err(CapRefused {
                 fault: CapFault::Limit,
                 below,
@@ -62,6 +62,7 @@ impl<G: Generator> Generator for Cap<G> {
 
     ghost fits = { Prim.search rules };
 
+    // What the generator below answers is passed on, call by call: Rust has no shorter form.
     fn key_bits(&self) -> usize {
         self.below.key_bits()
     }
@@ -88,10 +89,7 @@ impl<G: Generator> Generator for Cap<G> {
     }
 
     fn take(&mut self, n: u32) -> Result<u64, GeneratorFault> {
-        // a count out of range is refused below
-        if n <= 64 && u64::from(n) > self.left() {
-            return Err(GeneratorFault::TakeBeyond);
-        }
+        check_take(self.left(), n)?;
         self.below.take(n)
     }
 

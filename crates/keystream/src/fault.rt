@@ -8,7 +8,7 @@ ghost use Rattle.keystream.specs.Refusals.{layer_name, refusal_text, generator_n
 use std::error::Error;
 use std::fmt;
 
-// Where a refusal comes from: the line that was typed, the station, or the generator under it.
+/// Where a refusal comes from: the line that was typed, the station, or the generator under it.
 #[derive(Clone, Copy, PartialEq, Eq, Debug)]
 pub enum Layer {
     Line,
@@ -28,7 +28,7 @@ impl fmt::Display for Layer {
     }
 }
 
-// A refusal of any layer.
+/// A refusal of any layer. Each type says its number and its layer itself, since only there its variants are known.
 pub trait Refusal: Copy {
     ghost number_of: { Self → ℕ };
 
@@ -40,7 +40,7 @@ pub trait Refusal: Copy {
     fn layer(self) -> Layer
         ensures { result ≡ layer_of self };
 
-    // How each is printed: its number and its layer.
+    /// How each is printed: its number and its layer.
     final fn show<W: fmt::Write>(self, f: &mut fmt::Formatter<W>) -> fmt::Result
         ensures { DisplaysOnOk W.write_str_gives f.old result
             (Some (refusal_text (number_of self) (layer_of self))) f.new }
@@ -51,7 +51,7 @@ pub trait Refusal: Copy {
     }
 }
 
-// Why a generator refuses a load, a check or a take.
+/// Why a generator refuses a load, a check or a take.
 #[derive(Clone, Copy, PartialEq, Eq, Debug)]
 pub enum GeneratorFault {
     KeyLength = 21,
@@ -91,7 +91,7 @@ impl fmt::Display for GeneratorFault {
 
 impl Error for GeneratorFault {}
 
-// Why a pad is not made.
+/// Why a pad is not made.
 #[derive(Clone, Copy, PartialEq, Eq, Debug)]
 pub enum PadFault {
     Length = 28,
@@ -123,7 +123,7 @@ impl fmt::Display for PadFault {
 
 impl Error for PadFault {}
 
-// Why a cap is not put over a generator.
+/// Why a cap is not put over a generator.
 #[derive(Clone, Copy, PartialEq, Eq, Debug)]
 pub enum CapFault {
     Limit = 29,
@@ -145,7 +145,17 @@ impl Refusal for CapFault {
     }
 }
 
-// Why a keystream is not applied to a span of bits.
+impl fmt::Display for CapFault {
+    ghost output = { λ fault. Some (refusal_text (cap_number fault) (cap_layer fault)) };
+
+    fn fmt<W: fmt::Write>(&self, f: &mut fmt::Formatter<W>) -> fmt::Result {
+        CapFault::show(*self, f)
+    }
+}
+
+impl Error for CapFault {}
+
+/// Why a keystream is not applied to a span of bits.
 #[derive(Clone, Copy, PartialEq, Eq, Debug)]
 pub enum SpanFault {
     Outside,
@@ -159,6 +169,7 @@ impl Refusal for SpanFault {
 
     fn number(self) -> u8 {
         match self {
+            // a variant that holds a refusal can have no number of its own, so neither has this one
             SpanFault::Outside => 30,
             SpanFault::Generator(fault) => fault.number(),
         }

@@ -2,12 +2,13 @@
 ghost use Rattle.std.specs.Prelude.{◌≡◌, ℕ};
 ghost use Rattle.keystream.specs.Meaning.{Meaning, Meant, idle, Ranges, Fits, left};
 ghost use Rattle.keystream.specs.Calls.{load_answer, load_after, take_answer, take_after};
+ghost use Rattle.keystream.specs.Refusals.{answered, take_refusals};
 
 use crate::fault::GeneratorFault;
 use crate::setup::Setup;
 
 pub trait Generator {
-    // The number of the kind. A generator that stands on another has the number of the one below.
+    /// The number of the kind. A generator that stands on another has the number of the one below.
     const KIND: u8;
 
     ghost KIND: { ℕ };
@@ -43,12 +44,12 @@ pub trait Generator {
         requires { sound self.now }
         ensures { result ≡ left (meaning self.now) (meant self.now) };
 
-    // What load would answer.
+    /// What load would answer.
     fn check(&self, setup: &Setup<'_>) -> Result<(), GeneratorFault>
         requires { sound self.now }
         ensures { result ≡ load_answer (meaning self.now) setup.now };
 
-    // Takes in a key and a variable, and goes to place 0.
+    /// Takes in a key and a variable, and goes to place 0.
     fn load(&mut self, setup: &Setup<'_>) -> Result<(), GeneratorFault>
         requires { sound self.old }
         ensures answer { result ≡ load_answer (meaning self.old) setup.now }
@@ -56,7 +57,7 @@ pub trait Generator {
         ensures same { meaning self.new ≡ meaning self.old }
         ensures kept { sound self.new };
 
-    // The next n keystream bits as one number, the first bit most significant.
+    /// The next n keystream bits as one number, the first bit most significant.
     fn take(&mut self, n: u32) -> Result<u64, GeneratorFault>
         requires { sound self.old }
         ensures answer { result ≡ take_answer (meaning self.old) (meant self.old) n }
@@ -64,7 +65,7 @@ pub trait Generator {
         ensures same { meaning self.new ≡ meaning self.old }
         ensures kept { sound self.new };
 
-    // Unloads.
+    /// Unloads.
     fn forget(&mut self)
         requires { sound self.old }
         ensures after { meant self.new ≡ idle }
@@ -74,4 +75,17 @@ pub trait Generator {
     ghost ranges: { (s : Self) → sound s → Ranges (meaning s) };
 
     ghost fits: { (s : Self) → sound s → Fits (meaning s) (meant s) };
+}
+
+/// What a take of n bits is refused with where `rest` bits are left.
+pub fn check_take(rest: u64, n: u32) -> Result<(), GeneratorFault>
+    ensures { result ≡ answered (take_refusals rest n) tt }
+{
+    if n == 0 || n > 64 {
+        return Err(GeneratorFault::TakeCount);
+    }
+    if u64::from(n) > rest {
+        return Err(GeneratorFault::TakeBeyond);
+    }
+    Ok(())
 }

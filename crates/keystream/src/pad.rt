@@ -6,7 +6,7 @@ ghost use Rattle.keystream.specs.PadLaws.{stream_fits};
 ghost use Rattle.std.proofs.Common.{rules};
 
 use crate::fault::{GeneratorFault, PadFault};
-use crate::generator::Generator;
+use crate::generator::{Generator, check_take};
 use crate::setup::Setup;
 use crate::stream::{LINE_BITS, LONGEST, Stream};
 
@@ -30,9 +30,7 @@ impl Pad {
         ensures unloaded { IfOk result (λ pad. ⟦<Pad as Generator>⟧.meant pad ≡ idle) }
         ensures sound { IfOk result ⟦<Pad as Generator>⟧.sound }
     {
-        let Ok(bytes) = <[u8; PAD_BYTES]>::try_from(bytes) else {
-            return Err(PadFault::Length);
-        };
+        let bytes = <[u8; PAD_BYTES]>::try_from(bytes).map_err(|_| PadFault::Length)?;
         Ok(Pad {
             bytes,
             stream: None,
@@ -69,10 +67,7 @@ impl Generator for Pad {
     }
 
     fn left(&self) -> u64 {
-        match self.stream {
-            Some(stream) => (LINE_BITS - stream.place) as u64,
-            None => 0,
-        }
+        self.stream.map_or(0, |stream| stream.left())
     }
 
     fn check(&self, setup: &Setup<'_>) -> Result<(), GeneratorFault> {
@@ -95,20 +90,9 @@ impl Generator for Pad {
     }
 
     fn take(&mut self, n: u32) -> Result<u64, GeneratorFault> {
-        if n == 0 || n > 64 {
-            return Err(GeneratorFault::TakeCount);
-        }
-        let Some(mut stream) = self.stream else {
-            return Err(GeneratorFault::TakeBeyond);
-        };
-        let place = stream.place + n as usize;
-        if place > LINE_BITS {
-            return Err(GeneratorFault::TakeBeyond);
-        }
-        let word = stream.number(&self.bytes, n);
-        stream.place = place;
-        self.stream = Some(stream);
-        Ok(word)
+        check_take(self.left(), n)?;
+        let stream = self.stream.as_mut().ok_or(GeneratorFault::TakeBeyond)?;
+        Ok(stream.take(&self.bytes, n))
     }
 
     fn forget(&mut self) {

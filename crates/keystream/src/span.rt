@@ -10,7 +10,8 @@ use crate::generator::Generator;
 // The most bits of one take.
 const DRAW: usize = 64;
 
-// XORs each byte with the byte of the mask at its place.
+// XORs each byte with the byte of the mask at its place. The mask is read by an index, since a proof learns
+// nothing of what a loop over `iter_mut().zip(mask)` writes.
 fn xor_bytes(bytes: &mut [u8], mask: &[u8; 16])
     requires { length bytes.old ≤ 16 }
     ensures { (k : ℕ) → k < length bytes.old
@@ -36,7 +37,7 @@ fn lay(buffer: &mut [u8], from: usize, bit: usize, word: u64, count: u32)
     xor_bytes(&mut buffer[from..end], &mask);
 }
 
-// XORs n bits of the buffer, from bit `first` on, with the next n keystream bits.
+/// XORs n bits of the buffer, from bit `first` on, with the next n keystream bits.
 pub fn apply<G: Generator>(
     generator: &mut G,
     buffer: &mut [u8],
@@ -67,6 +68,7 @@ pub fn apply<G: Generator>(
     for done in (0..n).step_by(DRAW) {
         let count = (n - done).min(DRAW) as u32;
         let word = generator.take(count)?;
+        // first + done may be above usize::MAX, so the byte and the bit in it are counted apart
         let bit = first % 8 + done;
         lay(buffer, first / 8 + bit / 8, bit % 8, word, count);
     }

@@ -1,6 +1,6 @@
 // What a pad has loaded: a key, a variable and a place.
-ghost use Rattle.std.specs.Prelude.{◌≡◌, ◌^◌, ◌<◌, ◌≤◌, [], ◌∷◌, length, Some};
-ghost use Rattle.keystream.specs.Bits.{as_number, first_bits};
+ghost use Rattle.std.specs.Prelude.{◌≡◌, ◌+◌, ◌-◌, ◌^◌, ◌<◌, ◌≤◌, length, Some};
+ghost use Rattle.keystream.specs.Bits.{as_number};
 
 use crate::bits::bit;
 use crate::setup::Setup;
@@ -15,13 +15,13 @@ pub(crate) struct Stream {
     key: u8,
     count: usize,
     variable: u8,
-    pub(crate) place: usize,
+    place: usize,
     ghost short: { count ≤ 4 },
     ghost within: { place ≤ 512 },
 }
 
 impl Stream {
-    ghost use Rattle.keystream.specs.Meaning.{keystream};
+    ghost use Rattle.keystream.specs.Meaning.{keystream, moved};
     ghost use Rattle.keystream.specs.Calls.{begun};
     ghost use Rattle.keystream.specs.PadKind.{pad_bit, line_number, pad_meaning, key_of, variable_of, stream_meant};
 
@@ -32,11 +32,18 @@ impl Stream {
         ensures { stream_meant (Some result) ≡ begun setup.now }
     {
         Stream {
-            key: key_byte(setup.key),
+            key: setup.key[0],
             count: setup.count,
-            variable: variable_byte(setup.count, setup.variable),
+            variable: setup.variable.first().copied().unwrap_or(0),
             place: 0,
         }
+    }
+
+    // Keystream bits from the place up to the limit.
+    pub(crate) fn left(self) -> u64
+        ensures { result ≡ 512 - self.place }
+    {
+        (LINE_BITS - self.place) as u64
     }
 
     // The line of the pad that is read.
@@ -56,27 +63,25 @@ impl Stream {
     }
 
     // The next n keystream bits as one number, the first most significant.
-    pub(crate) fn number(self, pad: &[u8], n: u32) -> u64
+    fn number(self, pad: &[u8], n: u32) -> u64
         requires { n ≤ 64 }
-        ensures { result ≡ as_number (keystream (pad_meaning pad.now) (stream_meant (Some self)) n) }
+        ensures { result
+            ≡ as_number (keystream (pad_meaning pad.now) (stream_meant (Some self)) n) }
     {
         let end = self.place + n as usize;
         (self.place..end).fold(0, |word, place| word << 1 | u64::from(self.bit(pad, place)))
     }
-}
 
-// The byte of a key of one byte.
-fn key_byte(key: &[u8]) -> u8
-    requires { length key.now ≡ 1 }
-    ensures { result ∷ [] ≡ key.now }
-{
-    key[0]
-}
-
-// The byte that holds the bits of a short variable; 0 where it has none.
-fn variable_byte(count: usize, variable: &[u8]) -> u8
-    requires { count ≤ 8 }
-    ensures { first_bits count (result ∷ []) ≡ first_bits count variable.now }
-{
-    variable.first().copied().unwrap_or(0)
+    // The same, and moves the place on by n.
+    pub(crate) fn take(&mut self, pad: &[u8], n: u32) -> u64
+        requires most { n ≤ 64 }
+        requires within { self.old.place + n ≤ 512 }
+        ensures answer { result
+            ≡ as_number (keystream (pad_meaning pad.now) (stream_meant (Some self.old)) n) }
+        ensures after { stream_meant (Some self.new) ≡ moved (stream_meant (Some self.old)) n }
+    {
+        let word = self.number(pad, n);
+        self.place += n as usize;
+        word
+    }
 }

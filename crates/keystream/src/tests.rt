@@ -11,7 +11,11 @@ use std::test::Fail;
 #[test]
 fn pad_of_0f(rt: HostRuntime) -> Result<(), Fail> {
     let mut pad = Pad::new(&[0x0f; 1024])?;
-    pad.load(&Setup::new(&[0xa5], 4, &[0x30]))?;
+    pad.load(&Setup {
+        key: &[0xa5],
+        count: 4,
+        variable: &[0x30],
+    })?;
     assert_eq!(rt; pad.take(8)?, 0xaa);
     assert_eq!(rt; pad.take(56)?, 0xaa_aaaa_aaaa_aaaa);
     assert_eq!(rt; pad.take(64)?, 0xaaaa_aaaa_aaaa_aaaa);
@@ -32,12 +36,20 @@ fn takes_refused(rt: HostRuntime) -> Result<(), Fail> {
     let mut pad = Pad::new(&[0x0f; 1024])?;
     assert_eq!(rt; pad.take(1), Err(GeneratorFault::TakeBeyond));
     assert_eq!(rt; pad.take(0), Err(GeneratorFault::TakeCount));
-    pad.load(&Setup::new(&[0xa5], 0, &[]))?;
+    pad.load(&Setup {
+        key: &[0xa5],
+        count: 0,
+        variable: &[],
+    })?;
     assert_eq!(rt; pad.take(0), Err(GeneratorFault::TakeCount));
     assert_eq!(rt; pad.take(65), Err(GeneratorFault::TakeCount));
     assert_eq!(rt; pad.take(3)?, 0b101);
     assert_eq!(rt;
-        pad.load(&Setup::new(&[0xa5, 0xa5], 0, &[])),
+        pad.load(&Setup {
+            key: &[0xa5, 0xa5],
+            count: 0,
+            variable: &[]
+        }),
         Err(GeneratorFault::KeyLength)
     );
     assert_eq!(rt; pad.left(), 509);
@@ -51,30 +63,61 @@ fn takes_refused(rt: HostRuntime) -> Result<(), Fail> {
 fn loads_refused(rt: HostRuntime) -> Result<(), Fail> {
     let mut pad = Pad::new(&[0x0f; 1024])?;
     assert_eq!(rt;
-        pad.load(&Setup::new(&[0xa5, 0xa5], 4, &[0x30])),
+        pad.load(&Setup {
+            key: &[0xa5, 0xa5],
+            count: 4,
+            variable: &[0x30]
+        }),
         Err(GeneratorFault::KeyLength)
     );
     assert_eq!(rt;
-        pad.load(&Setup::new(&[0xa5], 5, &[0x30])),
+        pad.load(&Setup {
+            key: &[0xa5],
+            count: 5,
+            variable: &[0x30]
+        }),
         Err(GeneratorFault::VariableTooLong)
     );
     assert_eq!(rt;
-        pad.load(&Setup::new(&[0xa5], 4, &[0x30, 0])),
+        pad.load(&Setup {
+            key: &[0xa5],
+            count: 4,
+            variable: &[0x30, 0]
+        }),
         Err(GeneratorFault::VariableBytes)
     );
     assert_eq!(rt;
-        pad.load(&Setup::new(&[0xa5], 0, &[0])),
+        pad.load(&Setup {
+            key: &[0xa5],
+            count: 0,
+            variable: &[0]
+        }),
         Err(GeneratorFault::VariableBytes)
     );
     assert_eq!(rt;
-        pad.check(&Setup::new(&[], 5, &[0x30, 0])),
+        pad.check(&Setup {
+            key: &[],
+            count: 5,
+            variable: &[0x30, 0]
+        }),
         Err(GeneratorFault::KeyLength)
     );
     assert_eq!(rt;
-        pad.check(&Setup::new(&[0xa5], 5, &[])),
+        pad.check(&Setup {
+            key: &[0xa5],
+            count: 5,
+            variable: &[]
+        }),
         Err(GeneratorFault::VariableTooLong)
     );
-    assert_eq!(rt; pad.check(&Setup::new(&[0xa5], 4, &[0x3f])), Ok(()));
+    assert_eq!(rt;
+        pad.check(&Setup {
+            key: &[0xa5],
+            count: 4,
+            variable: &[0x3f]
+        }),
+        Ok(())
+    );
     assert_eq!(rt; pad.left(), 0);
     Ok(())
 }
@@ -112,7 +155,7 @@ fn numbers_and_layers(rt: HostRuntime) -> Result<(), Fail> {
     Ok(())
 }
 
-// Byte j is 7j + ⌊j / 64⌋ modulo 256.
+// Byte j is 7j + ⌊j / 64⌋ modulo 256. The program has the same pad, but a test states its own input.
 fn rising_pad() -> [u8; 1024] {
     std::array::from_fn(|j| ((7 * j + j / 64) % 256) as u8)
 }
@@ -207,7 +250,11 @@ fn spans(rt: HostRuntime) -> Result<(), Fail> {
     ];
     for (first, n, after) in cases {
         let mut pad = Pad::new(&bytes)?;
-        pad.load(&Setup::new(&[0x3c], 4, &[0xa0]))?;
+        pad.load(&Setup {
+            key: &[0x3c],
+            count: 4,
+            variable: &[0xa0],
+        })?;
         let mut buffer = before;
         apply(&mut pad, &mut buffer, first, n)?;
         assert_eq!(rt; buffer, after);
@@ -228,7 +275,11 @@ fn spans_refused(rt: HostRuntime) -> Result<(), Fail> {
         apply(&mut pad, &mut buffer, 0, 1),
         Err(SpanFault::Generator(GeneratorFault::TakeBeyond))
     );
-    pad.load(&Setup::new(&[0xa5], 0, &[]))?;
+    pad.load(&Setup {
+        key: &[0xa5],
+        count: 0,
+        variable: &[],
+    })?;
     assert_eq!(rt;
         apply(&mut pad, &mut buffer, usize::MAX, usize::MAX),
         Err(SpanFault::Outside)

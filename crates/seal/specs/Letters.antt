@@ -6,10 +6,12 @@
 --   Undecimal text          no such numeral
 --   ReadsLetter             what a letter's lines say
 --   ReadsNone               the first line that says nothing
---   Refused                 the error of a letter that is not read: ReadsNone of its line, and nothing of want of memory
+--   FailsToRead             the error of a letter that is not read: ReadsNone of its line, or no memory, of which nothing is said
+--   given_of letter         the key and the variable of a letter, as a load is handed them
 --   line_name               what that line is called
 use Rattle.std.specs.Prelude.{◌≡◌, ℕ, ◌^◌, ◌<◌, List, vec_items, codes, ◌≢◌}
 use Rattle.std.specs.Str.Parse.{IsNumeral, digits_value, without_leading_plus}
+use Rattle.keystream.specs.Meaning.{Given}
 use Rattle.hexadecimal.specs.Digits.{hex_text, ByteString}
 use Rattle.seal.specs.declared.letter.Letter.{Letter}
 use Rattle.seal.specs.declared.letter.Line.{Line}
@@ -39,9 +41,12 @@ ReadsNone key count variable BitCount = ((bytes : List ℕ) × Hexadecimal key b
 ReadsNone key count variable Variable =
     ((bytes : List ℕ) × Hexadecimal key bytes) × ((n : ℕ) × Decimal count n) × Unhexadecimal variable
 
-abbrev pub Refused : List ℕ → List ℕ → List ℕ → LetterError → Type 0
-Refused key count variable (Unreadable line) = ReadsNone key count variable line
-Refused key count variable (OutOfMemory cause) = Unit {0}
+abbrev pub FailsToRead : List ℕ → List ℕ → List ℕ → LetterError → Type 0
+FailsToRead key count variable (Unreadable line) = ReadsNone key count variable line
+FailsToRead key count variable (OutOfMemory cause) = Unit {0}
+
+abbrev pub given_of : Letter → Given
+given_of letter = record { key = vec_items letter.key; count = letter.count; variable = vec_items letter.variable }
 
 abbrev pub line_name : Line → List ℕ
 line_name Key = codes "key"

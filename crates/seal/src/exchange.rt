@@ -1,6 +1,5 @@
 // A message sealed by one generator and opened by another.
-ghost use Rattle.std.specs.Prelude.{◌≡◌, length, Ok};
-ghost use Rattle.keystream.specs.Refusals.{whether};
+ghost use Rattle.std.specs.Prelude.{◌≡◌, length, Ok, is_ok, if◌then◌else◌};
 ghost use Rattle.seal.specs.Sealing.{seal_answer, seal_message, seal_after, exchange_answer};
 
 use keystream::fault::{GeneratorFault, SpanFault};
@@ -45,6 +44,7 @@ pub(crate) fn seal<G: Generator>(
 }
 
 // Seals a message with one generator, and opens what was sealed with another into `opened`.
+// Both buffers are lent, so that no memory can be missing once the sender has sealed.
 pub(crate) fn exchange<G: Generator, H: Generator>(
     sender: &mut G,
     receiver: &mut H,
@@ -57,23 +57,24 @@ pub(crate) fn exchange<G: Generator, H: Generator>(
     requires lengths { length opened.old ≡ length message.old }
     ensures answer { result
         ≡ exchange_answer (G.meaning sender.old) (H.meaning receiver.old) setup.now message.old }
-    ensures message { message.new
-        ≡ whether result (seal_message (G.meaning sender.old) setup.now message.old) message.old }
-    ensures opened { opened.new ≡ whether result
-        (seal_message (H.meaning receiver.old) setup.now
-        (seal_message (G.meaning sender.old) setup.now message.old))
-        opened.old }
+    ensures message { message.new ≡ (if is_ok result
+        then seal_message (G.meaning sender.old) setup.now message.old
+        else message.old) }
+    ensures opened { opened.new ≡ (if is_ok result
+        then seal_message (H.meaning receiver.old) setup.now
+        (seal_message (G.meaning sender.old) setup.now message.old)
+        else opened.old) }
     ensures back { H.meaning receiver.old ≡ G.meaning sender.old
         → (result ≡ seal_answer (G.meaning sender.old) setup.now message.old)
         × (result ≡ Ok tt → opened.new ≡ message.old) }
-    ensures sender_after { G.meant sender.new ≡ whether result
-        (seal_after (G.meaning sender.old) (G.meant sender.old) setup.now message.old)
-        (G.meant sender.old) }
+    ensures sender_after { G.meant sender.new ≡ (if is_ok result
+        then seal_after (G.meaning sender.old) (G.meant sender.old) setup.now message.old
+        else G.meant sender.old) }
     ensures sender_same { G.meaning sender.new ≡ G.meaning sender.old }
     ensures sender_kept { G.sound sender.new }
-    ensures receiver_after { H.meant receiver.new ≡ whether result
-        (seal_after (H.meaning receiver.old) (H.meant receiver.old) setup.now message.old)
-        (H.meant receiver.old) }
+    ensures receiver_after { H.meant receiver.new ≡ (if is_ok result
+        then seal_after (H.meaning receiver.old) (H.meant receiver.old) setup.now message.old
+        else H.meant receiver.old) }
     ensures receiver_same { H.meaning receiver.new ≡ H.meaning receiver.old }
     ensures receiver_kept { H.sound receiver.new }
 {

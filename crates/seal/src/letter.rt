@@ -1,7 +1,7 @@
 // The key and the variable of a letter, read from its lines.
 ghost use Rattle.std.specs.Prelude.{◌≡◌, Some, MatchResult};
-ghost use Rattle.seal.specs.declared.letter.LetterError.TheVariants.{Unreadable, OutOfMemory};
-ghost use Rattle.seal.specs.Letters.{ReadsLetter, Refused, line_name};
+ghost use Rattle.seal.specs.declared.letter.LetterError.TheVariants.{OutOfMemory};
+ghost use Rattle.seal.specs.Letters.{ReadsLetter, FailsToRead, line_name, given_of};
 
 use keystream::setup::Setup;
 use std::alloc::{AllocError, Global};
@@ -15,7 +15,7 @@ pub(crate) struct Letter {
 }
 
 // What a line of a letter is read for.
-#[derive(Clone, Copy)]
+#[derive(Clone, Copy, PartialEq, Eq, Debug)]
 pub(crate) enum Line {
     Key,
     BitCount,
@@ -34,19 +34,11 @@ impl fmt::Display for Line {
     }
 }
 
-// Why a letter is not read: its first unreadable line, or want of memory.
-#[derive(Clone, Copy)]
+// Why a letter is not read: its first unreadable line, or no memory.
+#[derive(Clone, Copy, PartialEq, Eq, Debug)]
 pub(crate) enum LetterError {
     Unreadable(Line),
     OutOfMemory(AllocError),
-}
-
-impl From<Line> for LetterError {
-    ghost from_gives = { λ line error. error ≡ Unreadable line };
-
-    fn from(line: Line) -> LetterError {
-        LetterError::Unreadable(line)
-    }
 }
 
 impl From<AllocError> for LetterError {
@@ -66,23 +58,32 @@ impl Letter {
     ) -> Result<Letter, LetterError>
         ensures { MatchResult result
             (ReadsLetter key.now count.now variable.now)
-            (Refused key.now count.now variable.now) }
+            (FailsToRead key.now count.now variable.now) }
     {
-        let key = hexadecimal::read(heap, key.as_bytes())?.ok_or(Line::Key)?;
-        let count = count.parse::<usize>().map_err(|_| Line::BitCount)?;
-        let variable = hexadecimal::read(heap, variable.as_bytes())?.ok_or(Line::Variable)?;
+        let key = hexadecimal::read(heap, key.as_bytes())?.ok_or(LetterError::Unreadable(
+            Line::Key,
+        ))?;
+        let count = count
+            .parse::<usize>()
+            .map_err(|_| LetterError::Unreadable(Line::BitCount))?;
+        let variable = hexadecimal::read(heap, variable.as_bytes())?.ok_or(LetterError::Unreadable(
+            Line::Variable,
+        ))?;
         Ok(Letter {
             key,
             count,
             variable,
         })
     }
+
     // What a generator is loaded with.
     pub(crate) fn setup(&self) -> Setup<'_>
-        ensures key { result.key ≡ self.now.key.items }
-        ensures count { result.count ≡ self.now.count }
-        ensures variable { result.bytes ≡ self.now.variable.items }
+        ensures { result ≡ given_of self.now }
     {
-        Setup::new(&self.key, self.count, &self.variable)
+        Setup {
+            key: &self.key,
+            count: self.count,
+            variable: &self.variable,
+        }
     }
 }

@@ -12,28 +12,21 @@ use pad_bytes::pad_bytes;
 use reply::reply;
 
 // Sends one message over two pads of the same bytes, and prints the reply.
-fn deliver(rt: &HostRuntime, letter: &Letter, message: &str) -> anyhow::Result<()> {
+fn deliver(rt: &(impl Print + AllocGlobal), letter: &Letter, message: &str) -> anyhow::Result<()> {
     let heap = rt.alloc();
     let bytes = pad_bytes();
     let sender = Pad::new(&bytes)?;
     let receiver = Pad::new(&bytes)?;
     let mut sealed = Vec::from_slice(heap, message.as_bytes())?;
     let mut opened = vec![in heap; 0; message.len()]?;
-    let text = reply(
-        heap,
-        sender,
-        receiver,
-        &letter.setup(),
-        &mut sealed,
-        &mut opened,
-    )?;
+    let text = reply(heap, sender, receiver, letter, &mut sealed, &mut opened)?;
     println!(rt; "{text}")?;
     Ok(())
 }
 
 // Answers a letter of four lines.
 fn answer(
-    rt: &HostRuntime,
+    rt: &(impl Print + AllocGlobal),
     key: &str,
     count: &str,
     variable: &str,
@@ -50,7 +43,7 @@ fn answer(
 }
 
 // Answers the letters on standard input.
-fn run(rt: &HostRuntime) -> anyhow::Result<()> {
+fn run(rt: &(impl Input + Print + AllocGlobal)) -> anyhow::Result<()> {
     let heap = rt.alloc();
     let mut lines = Vec::new(heap);
     for line in rt.lines(heap) {

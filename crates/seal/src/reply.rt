@@ -1,12 +1,12 @@
 // The text that answers a letter.
-ghost use Rattle.std.specs.Prelude.{◌≡◌, length, IfOk, string_bytes, IsUtf8};
+ghost use Rattle.std.specs.Prelude.{◌≡◌, length, is_ok, if◌then◌else◌, IfOk, string_bytes, IsUtf8};
 ghost use Rattle.seal.specs.Replies.{delivered_text, reply_text};
-ghost use Rattle.keystream.specs.Refusals.{whether};
+ghost use Rattle.seal.specs.Letters.{given_of};
 ghost use Rattle.seal.specs.Sealing.{seal_answer, seal_message};
 
 use crate::exchange::exchange;
+use crate::letter::Letter;
 use keystream::generator::Generator;
-use keystream::setup::Setup;
 use std::alloc::{AllocError, Global};
 
 // What was sealed and what was opened, a line each.
@@ -14,9 +14,7 @@ fn delivered(heap: Global, sealed: &[u8], opened: &[u8]) -> Result<String, Alloc
     requires { IsUtf8 opened.now }
     ensures { IfOk result (λ text. string_bytes text ≡ delivered_text sealed.now opened.now) }
 {
-    let Ok(clear) = std::str::from_utf8(opened) else {
-        unreachable()
-    };
+    let clear = std::str::from_utf8(opened).unwrap();
     let sealed = hexadecimal::text(heap, sealed)?;
     format!(in heap; "sealed {sealed}\nclear {clear}")
 }
@@ -26,7 +24,7 @@ pub(crate) fn reply<G: Generator + Drop>(
     heap: Global,
     mut sender: G,
     mut receiver: G,
-    setup: &Setup<'_>,
+    letter: &Letter,
     message: &mut [u8],
     opened: &mut [u8],
 ) -> Result<String, AllocError>
@@ -36,12 +34,14 @@ pub(crate) fn reply<G: Generator + Drop>(
     requires utf8 { IsUtf8 message.old }
     requires lengths { length opened.old ≡ length message.old }
     ensures text { IfOk result (λ text.
-        string_bytes text ≡ reply_text (G.meaning sender) setup.now message.old) }
-    ensures message { message.new ≡ seal_message (G.meaning sender) setup.now message.old }
+        string_bytes text ≡ reply_text (G.meaning sender) (given_of letter.now) message.old) }
+    ensures message { message.new ≡ seal_message (G.meaning sender) (given_of letter.now) message.old }
     ensures opened { opened.new
-        ≡ whether (seal_answer (G.meaning sender) setup.now message.old) message.old opened.old }
+        ≡ (if is_ok (seal_answer (G.meaning sender) (given_of letter.now) message.old)
+        then message.old
+        else opened.old) }
 {
-    match exchange(&mut sender, &mut receiver, setup, message, opened) {
+    match exchange(&mut sender, &mut receiver, &letter.setup(), message, opened) {
         Ok(()) => delivered(heap, message, opened),
         Err(fault) => format!(in heap; "no {fault}"),
     }

@@ -4,8 +4,10 @@ use Rattle.keystream.proofs.ahead.ReadAhead.held.Goals as goal
 
 pub returns-clause-answer : goal.returns-clause-answer
 returns-clause-answer g c =
-    c.next.ensures.answer
-    ∙ held_front (g.G.Generator.meaning c.args.self.now.below) (g.G.Generator.meant c.args.self.now.below) c.args.self.now.buffer c.requires.sound.0 c.args.n c.requires.held
+    let m = g.G.Generator.meaning c.args.self.now.below in
+    c.next.ensures.answer ∙ held_front m _ _ c.requires.sound.0 c.args.n c.requires.held
 
 pub returns-clause-kept : goal.returns-clause-kept
-returns-clause-kept g c = (held_rest (g.G.Generator.meaning c.args.self.now.below) (g.G.Generator.meant c.args.self.now.below) c.args.self.now.buffer c.requires.sound.0 c.args.n c.requires.held c.next.new.self c.next.ensures.word c.next.ensures.count, c.requires.sound.1)
+returns-clause-kept g c =
+    let m = g.G.Generator.meaning c.args.self.now.below in
+    (held_rest m _ _ c.requires.sound.0 c.args.n c.requires.held c.next.new.self c.next.ensures.word c.next.ensures.count, c.requires.sound.1)
