@@ -60,15 +60,12 @@ impl Letter {
             (ReadsLetter key.now count.now variable.now)
             (FailsToRead key.now count.now variable.now) }
     {
-        let key = hexadecimal::read(heap, key.as_bytes())?.ok_or(LetterError::Unreadable(
-            Line::Key,
-        ))?;
-        let count = count
-            .parse::<usize>()
-            .map_err(|_| LetterError::Unreadable(Line::BitCount))?;
-        let variable = hexadecimal::read(heap, variable.as_bytes())?.ok_or(LetterError::Unreadable(
-            Line::Variable,
-        ))?;
+        let key = hexadecimal::read(heap, key.as_bytes())?;
+        let key = key.ok_or(LetterError::Unreadable(Line::Key))?;
+        let count = count.parse::<usize>();
+        let count = count.map_err(|_| LetterError::Unreadable(Line::BitCount))?;
+        let variable = hexadecimal::read(heap, variable.as_bytes())?;
+        let variable = variable.ok_or(LetterError::Unreadable(Line::Variable))?;
         Ok(Letter {
             key,
             count,
