@@ -14,8 +14,8 @@ fn value(digit: char) -> Option<u8>
 {
     // std's `to_digit` reads upper-case digits too.
     match digit {
-        '0'..='9' => Some((digit as u32 - '0' as u32) as u8),
-        'a'..='f' => Some((digit as u32 - 'a' as u32) as u8 + 10),
+        '0'..='9' => Some(digit as u8 - b'0'),
+        'a'..='f' => Some(digit as u8 - b'a' + 10),
         _ => None,
     }
 }

@@ -18,12 +18,9 @@ fn pad_of_0f(rt: HostRuntime) -> Result<(), Fail> {
     })?;
     assert_eq!(rt; pad.take(8)?, 0xaa);
     assert_eq!(rt; pad.take(56)?, 0xaa_aaaa_aaaa_aaaa);
-    assert_eq!(rt; pad.take(64)?, 0xaaaa_aaaa_aaaa_aaaa);
-    assert_eq!(rt; pad.take(64)?, 0xaaaa_aaaa_aaaa_aaaa);
-    assert_eq!(rt; pad.take(64)?, 0xaaaa_aaaa_aaaa_aaaa);
-    assert_eq!(rt; pad.take(64)?, 0xaaaa_aaaa_aaaa_aaaa);
-    assert_eq!(rt; pad.take(64)?, 0xaaaa_aaaa_aaaa_aaaa);
-    assert_eq!(rt; pad.take(64)?, 0xaaaa_aaaa_aaaa_aaaa);
+    for _ in 0..6 {
+        assert_eq!(rt; pad.take(64)?, 0xaaaa_aaaa_aaaa_aaaa);
+    }
     assert_eq!(rt; pad.left(), 64);
     assert_eq!(rt; pad.take(64)?, 0xaaaa_aaaa_aaaa_aaaa);
     assert_eq!(rt; pad.take(1), Err(GeneratorFault::TakeBeyond));
