@@ -1,4 +1,5 @@
 // A plain buffer of bits, the first most significant: a word, and how many of its lowest bits are held.
+// By a rule of the project it says no more; what the bits are is part of the read-ahead's soundness.
 ghost use Rattle.std.specs.Prelude.{◌≡◌, ℕ, ◌+◌, ◌-◌, ◌/◌, ◌%◌, ◌^◌, ◌<◌, ◌≤◌};
 ghost use Rattle.keystream.specs.Bits.{as_number};
 ghost use Rattle.keystream.specs.Meaning.{Meaning, Meant, keystream, moved};

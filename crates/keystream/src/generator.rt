@@ -8,7 +8,7 @@ use crate::fault::GeneratorFault;
 use crate::setup::Setup;
 
 pub trait Generator {
-    /// The number of the kind. A generator that stands on another has the number of the one below.
+    /// The number that the kind is known by. A generator that stands on another has that of the one below.
     const KIND: u8;
 
     ghost KIND: { ℕ };

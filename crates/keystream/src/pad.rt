@@ -91,6 +91,7 @@ impl Generator for Pad {
 
     fn take(&mut self, n: u32) -> Result<u64, GeneratorFault> {
         check_take(self.left(), n)?;
+        // never refused here: with nothing loaded nothing is left
         let stream = self.stream.as_mut().ok_or(GeneratorFault::TakeBeyond)?;
         Ok(stream.take(&self.bytes, n))
     }

@@ -1,7 +1,8 @@
 // What a generator is loaded with.
 use std::marker::Model;
 
-/// A key, and an initialisation variable as the first `count` bits of some bytes.
+/// A key, and an initialisation variable as the first `count` bits of some bytes. Count and bytes are as they were
+/// handed in: that they belong together is for a load to check.
 #[derive(Drop)]
 pub struct Setup<'a> {
     pub key: &'a [u8],

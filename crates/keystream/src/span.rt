@@ -23,6 +23,7 @@ fn xor_bytes(bytes: &mut [u8], mask: &[u8; 16])
 }
 
 // XORs the `count` bits of a word, the first most significant, into the buffer from a bit of a byte on.
+// The word and its count are used up here: a struct of the two would be made and taken apart at once.
 fn lay(buffer: &mut [u8], from: usize, bit: usize, word: u64, count: u32)
     requires bit { bit < 8 }
     requires nonzero { 0 < count }
@@ -59,6 +60,7 @@ pub fn apply<G: Generator>(
     ensures twice { apply_buffer (G.meaning generator.old) (G.meant generator.old) buffer.new first n
         ≡ buffer.old }
 {
+    // casts, here and below, since std has no `From` between `usize` and these widths
     if first as u128 + n as u128 > 8 * buffer.len() as u128 {
         return Err(SpanFault::Outside);
     }

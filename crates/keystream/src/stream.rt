@@ -9,7 +9,8 @@ pub(crate) const LINE_BITS: usize = 512;
 
 pub(crate) const LONGEST: usize = 4;
 
-// The variable is the first `count` bits of its byte.
+// The variable is the first `count` bits of its byte. The pad's bytes are lent to each call: a stream lies in
+// the pad and cannot borrow from it.
 #[derive(Clone, Copy)]
 pub(crate) struct Stream {
     key: u8,

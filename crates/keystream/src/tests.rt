@@ -1,6 +1,6 @@
 // Worked figures. Expected values come from the rules by hand or by another program.
 use crate::bits::bit;
-use crate::fault::{GeneratorFault, Layer, Refusal, SpanFault};
+use crate::fault::{CapFault, GeneratorFault, Layer, Refusal, SpanFault};
 use crate::generator::Generator;
 use crate::pad::Pad;
 use crate::setup::Setup;
@@ -139,8 +139,12 @@ fn numbers_and_layers(rt: HostRuntime) -> Result<(), Fail> {
     assert_eq!(rt; Pad::KIND, 2);
     assert_eq!(rt; short.number(), 28);
     assert_eq!(rt; short.layer(), Layer::Generator);
-    let shown = format!(in rt.alloc(); "{short}, {}", GeneratorFault::TakeBeyond)?;
-    assert_eq!(rt; shown.as_str(), "28 generator, 25 generator");
+    let shown = format!(in rt.alloc();
+        "{short}, {}, {}",
+        GeneratorFault::TakeBeyond,
+        CapFault::Limit
+    )?;
+    assert_eq!(rt; shown.as_str(), "28 generator, 25 generator, 29 generator");
     assert_eq!(rt; GeneratorFault::KeyLength.number(), 21);
     assert_eq!(rt; GeneratorFault::VariableTooLong.number(), 22);
     assert_eq!(rt; GeneratorFault::VariableBytes.number(), 23);
