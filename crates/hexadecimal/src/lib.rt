@@ -20,13 +20,22 @@ fn value(digit: char) -> Option<u8>
     }
 }
 
+// The character of a digit.
+fn digit(value: u8) -> char
+    requires { value < 16 }
+    ensures { result ≡ hex_digit value }
+{
+    char::from_digit(u32::from(value), 16).unwrap()
+}
+
 /// The text of a byte string.
 pub fn text(heap: Global, bytes: &[u8]) -> Result<String, AllocError>
     ensures { IfOk result (λ t. string_bytes t ≡ hex_text bytes.now) }
 {
     let mut text = String::new(heap);
     for byte in bytes {
-        write!(text, "{byte:02x}")?;
+        text.push(digit(byte / 16))?;
+        text.push(digit(byte % 16))?;
     }
     Ok(text)
 }

@@ -13,7 +13,7 @@ module _ (m : Meaning) (s : Meant) (k word : ℕ) (took : Ok word ≡ take_answe
   taken_within : k ≤ left m s
   taken_within = grind (arith, nat_tests)
 
-  taken : word ≡ as_number (keystream m s k)
+  pub taken : word ≡ as_number (keystream m s k)
   taken = grind (arith, nat_tests)
 
   pub taken_below : word < 2 ^ k

@@ -78,12 +78,12 @@ module _ (word count r from : ℕ) (w : word < 2 ^ count) (l : r + count ≤ 128
 -- those bits laid over `few` bytes: all that the word reaches, or all that there are
 pub laid_over
     : (buffer part : List ℕ) (word count from bit few : ℕ)
-    → word < 2 ^ count → bit < 8 → count ≤ 64 → from ≤ length buffer → few ≡ min (length buffer - from) 9
+    → word < 2 ^ count → bit < 8 → count ≤ 64 → few ≡ min (length buffer - from) 9
     → length part ≡ length (take few (drop from buffer))
     → ((k : ℕ) → k < length (take few (drop from buffer))
     → get_or part k 0 ≡ bit_xor (get_or (take few (drop from buffer)) k 0) (get_or (bytes_of (held word count bit)) k 0))
     → take from buffer ++ (part ++ drop few (drop from buffer)) ≡ sealed buffer (8 * from + bit) (bits_of count word)
-laid_over buffer part word count from bit few w small short within reach long each =
+laid_over buffer part word count from bit few w small short reach long each =
     let bits = bits_of count word in
     let first = 8 * from + bit in
     let spans = bits_of_length count word in

@@ -6,7 +6,6 @@ ghost use Rattle.keystream.specs.Bits.{bit_at};
 pub fn bit(bytes: &[u8], i: usize) -> bool
     ensures { result ≡ bit_at bytes.now i }
 {
-    bytes
-        .get(i / 8)
-        .is_some_and(|byte| (byte >> (7 - i % 8)) % 2 == 1)
+    let byte = bytes.get(i / 8).copied().unwrap_or(0);
+    (byte >> (7 - i % 8)) % 2 == 1
 }

@@ -69,8 +69,10 @@ impl Stream {
         ensures { result
             ≡ as_number (keystream (pad_meaning pad.now) (stream_meant (Some self)) n) }
     {
-        let end = self.place + n as usize;
-        (self.place..end).fold(0, |word, place| word << 1 | u64::from(self.bit(pad, place)))
+        (0..n as usize).fold(
+            0,
+            |word, i| word << 1 | u64::from(self.bit(pad, self.place + i)),
+        )
     }
 
     // The same, and moves the place on by n.

@@ -12,4 +12,4 @@ returns c =
     let shifted : c.from.result * 2 ^ shift % 2 ^ 128 ≡ held word count bit = rw c.from.ensures (shl_whole word count shift 128 (omega arith) (omega arith)) in
     let mask : c.to_be_bytes-mask.result ≡ bytes_of (held word count bit) = rw (← shifted) c.to_be_bytes-mask.ensures in
     laid_over c.args.buffer.now _ word count c.args.from bit (c.min-end.result - c.args.from)
-    (omega arith) (omega arith) (omega arith) (omega arith) (omega arith) c.xor_bytes.auto.bytes (rw mask at c.xor_bytes.ensures)
+    (omega arith) (omega arith) (omega arith) (omega arith) c.xor_bytes.auto.bytes (rw mask at c.xor_bytes.ensures)
